@@ -1,8 +1,10 @@
 //! Buffered readers: the examples of docs/BUFFERED.md.
-use py_buffered::Whence;
+use py_buffered::{BufferedReader, Whence};
 use py_example_streams::{gives, reader_of};
 use py_raw::{IoFault, Life};
-use py_raw_memory::Cut;
+use py_raw_memory::{Cut, MemRaw};
+use std::alloc::Global;
+use std::process::Abort;
 use std::test::Fail;
 
 #[test]
@@ -20,10 +22,12 @@ fn lines_pieces_and_places(rt: HostRuntime) -> Result<(), Fail> {
     Ok(())
 }
 
-#[test]
-fn lines_come_one_by_one(rt: HostRuntime) -> Result<(), Fail> {
-    let alloc = rt.alloc();
-    let mut reader = reader_of(alloc, b"one\ntwo\nthree", &[], &[], 8192)?;
+/// The calls of `lines_come_one_by_one`, whose reader is lent: a `?` drops nothing of it.
+fn lent_lines_come_one_by_one(
+    rt: &impl Abort,
+    alloc: Global,
+    reader: &mut BufferedReader<MemRaw>,
+) -> Result<(), Fail> {
     let mut longest = 0;
     for answer in reader.lines(alloc) {
         // a refusal is the last item; none is a wait, after which the next item goes on
@@ -39,11 +43,18 @@ fn lines_come_one_by_one(rt: HostRuntime) -> Result<(), Fail> {
 }
 
 #[test]
-fn lines_pass_on_waits_and_end_after_a_fault(rt: HostRuntime) -> Result<(), Fail> {
+fn lines_come_one_by_one(rt: HostRuntime) -> Result<(), Fail> {
     let alloc = rt.alloc();
-    // the raw is asked where it stands (call 0), gives three bytes, asks to wait twice, and fails (call 4)
-    let plan = [Cut::Take(3), Cut::Wait, Cut::Wait];
-    let mut reader = reader_of(alloc, b"a\nbc", &plan, &[4], 8192)?;
+    let mut reader = reader_of(alloc, b"one\ntwo\nthree", &[], &[], 8192)?;
+    lent_lines_come_one_by_one(&rt, alloc, &mut reader)
+}
+
+/// The calls of `lines_pass_on_waits_and_end_after_a_fault`, whose reader is lent: a `?` drops nothing of it.
+fn lent_lines_pass_on_waits_and_end_after_a_fault(
+    rt: &impl Abort,
+    alloc: Global,
+    reader: &mut BufferedReader<MemRaw>,
+) -> Result<(), Fail> {
     let mut lines = reader.lines(alloc);
     assert!(rt; lines.next() == Some(Ok(Some(b"a\n".to_vec(alloc)?))));
     assert!(rt; lines.next() == Some(Ok(Some(b"b".to_vec(alloc)?)))); // cut short by the wait
@@ -56,6 +67,15 @@ fn lines_pass_on_waits_and_end_after_a_fault(rt: HostRuntime) -> Result<(), Fail
     assert!(rt; lines.next() == Some(Err(IoFault::Failed)));
     assert!(rt; lines.next() == None);
     Ok(())
+}
+
+#[test]
+fn lines_pass_on_waits_and_end_after_a_fault(rt: HostRuntime) -> Result<(), Fail> {
+    let alloc = rt.alloc();
+    // the raw is asked where it stands (call 0), gives three bytes, asks to wait twice, and fails (call 4)
+    let plan = [Cut::Take(3), Cut::Wait, Cut::Wait];
+    let mut reader = reader_of(alloc, b"a\nbc", &plan, &[4], 8192)?;
+    lent_lines_pass_on_waits_and_end_after_a_fault(&rt, alloc, &mut reader)
 }
 
 #[test]
@@ -72,11 +92,12 @@ fn a_wait_loses_nothing(rt: HostRuntime) -> Result<(), Fail> {
     Ok(())
 }
 
-#[test]
-fn a_fault_fails_the_reader_and_hands_the_raw_back(rt: HostRuntime) -> Result<(), Fail> {
-    let alloc = rt.alloc();
-    // the raw is asked where it stands (call 0), and read (call 1); its next call fails
-    let mut reader = reader_of(alloc, b"abcdef", &[], &[2], 4)?;
+/// The calls of `a_fault_fails_the_reader_and_hands_the_raw_back`, whose reader is lent: a `?` drops nothing of it.
+fn lent_a_fault_fails_the_reader_and_hands_the_raw_back(
+    rt: &impl Abort,
+    alloc: Global,
+    reader: &mut BufferedReader<MemRaw>,
+) -> Result<(), Fail> {
     assert!(rt; gives(&reader.read(alloc, Some(3)), b"abc"));
     assert!(rt; reader.tell() == Ok(3));
     assert!(rt; reader.read(alloc, Some(3)).err() == Some(IoFault::RawFault));
@@ -86,4 +107,12 @@ fn a_fault_fails_the_reader_and_hands_the_raw_back(rt: HostRuntime) -> Result<()
     let detached = reader.detach()?;
     assert!(rt; detached.raw.bytes_of() == &b"abcdef"[..]);
     Ok(())
+}
+
+#[test]
+fn a_fault_fails_the_reader_and_hands_the_raw_back(rt: HostRuntime) -> Result<(), Fail> {
+    let alloc = rt.alloc();
+    // the raw is asked where it stands (call 0), and read (call 1); its next call fails
+    let mut reader = reader_of(alloc, b"abcdef", &[], &[2], 4)?;
+    lent_a_fault_fails_the_reader_and_hands_the_raw_back(&rt, alloc, &mut reader)
 }

@@ -1,7 +1,10 @@
 //! Buffered writers, their waits and faults: the examples of docs/FAULTS.md.
+use py_buffered::BufferedWriter;
 use py_example_streams::{three_lines, writer_to};
 use py_raw::{IoFault, Life, RawStream};
-use py_raw_memory::Cut;
+use py_raw_memory::{Cut, MemRaw};
+use std::alloc::Global;
+use std::process::Abort;
 use std::test::Fail;
 
 #[test]
@@ -62,11 +65,12 @@ fn a_flush_that_has_to_wait_is_called_again(rt: HostRuntime) -> Result<(), Fail>
     Ok(())
 }
 
-#[test]
-fn what_a_fault_leaves_is_written_elsewhere(rt: HostRuntime) -> Result<(), Fail> {
-    let alloc = rt.alloc();
-    // the raw takes two bytes, and then fails
-    let mut writer = writer_to(alloc, b"", &[Cut::Take(2), Cut::Break(0)], &[], 8)?;
+/// The calls of `what_a_fault_leaves_is_written_elsewhere`, whose writer is lent: a `?` drops nothing of it.
+fn lent_what_a_fault_leaves_is_written_elsewhere(
+    rt: &impl Abort,
+    alloc: Global,
+    writer: &mut BufferedWriter<MemRaw>,
+) -> Result<(), Fail> {
     assert!(rt; writer.write(b"abcdef") == Ok(6));
     assert!(rt; writer.flush() == Err(IoFault::RawFault));
     assert!(rt; writer.life() == Life::Failed); // every call but `detach` is refused now
@@ -78,15 +82,24 @@ fn what_a_fault_leaves_is_written_elsewhere(rt: HostRuntime) -> Result<(), Fail>
     let mut writer = writer_to(alloc, detached.raw.bytes_of(), &[], &[], 8)?;
     assert!(rt; writer.seek(2, 0) == Ok(2));
     assert!(rt; writer.write(&detached.unwritten) == Ok(4));
-    let detached = writer.detach().expect(&rt, "a raw");
+    let detached = writer.detach().expect(rt, "a raw");
     assert!(rt; detached.raw.bytes_of() == &b"abcdef"[..]);
     Ok(())
 }
 
 #[test]
-fn a_write_whose_older_bytes_fail_is_made_again(rt: HostRuntime) -> Result<(), Fail> {
+fn what_a_fault_leaves_is_written_elsewhere(rt: HostRuntime) -> Result<(), Fail> {
     let alloc = rt.alloc();
-    let mut writer = writer_to(alloc, b"", &[Cut::Break(0)], &[], 4)?;
+    // the raw takes two bytes, and then fails
+    let mut writer = writer_to(alloc, b"", &[Cut::Take(2), Cut::Break(0)], &[], 8)?;
+    lent_what_a_fault_leaves_is_written_elsewhere(&rt, alloc, &mut writer)
+}
+
+/// The calls of `a_write_whose_older_bytes_fail_is_made_again`, whose writer is lent: a `?` drops nothing of it.
+fn lent_a_write_whose_older_bytes_fail_is_made_again(
+    rt: &impl Abort,
+    writer: &mut BufferedWriter<MemRaw>,
+) -> Result<(), Fail> {
     assert!(rt; writer.write(b"abc") == Ok(3));
     assert!(rt; writer.write(b"def") == Err(IoFault::RawFault)); // there was no room, and the raw failed
     let detached = writer.detach()?;
@@ -96,15 +109,30 @@ fn a_write_whose_older_bytes_fail_is_made_again(rt: HostRuntime) -> Result<(), F
 }
 
 #[test]
-fn a_large_write_that_fails_tells_how_far_it_came(rt: HostRuntime) -> Result<(), Fail> {
+fn a_write_whose_older_bytes_fail_is_made_again(rt: HostRuntime) -> Result<(), Fail> {
     let alloc = rt.alloc();
-    // the raw takes four bytes, and then fails
-    let mut writer = writer_to(alloc, b"", &[Cut::Take(4), Cut::Break(0)], &[], 4)?;
+    let mut writer = writer_to(alloc, b"", &[Cut::Break(0)], &[], 4)?;
+    lent_a_write_whose_older_bytes_fail_is_made_again(&rt, &mut writer)
+}
+
+/// The calls of `a_large_write_that_fails_tells_how_far_it_came`, whose writer is lent: a `?` drops nothing of it.
+fn lent_a_large_write_that_fails_tells_how_far_it_came(
+    rt: &impl Abort,
+    writer: &mut BufferedWriter<MemRaw>,
+) -> Result<(), Fail> {
     assert!(rt; writer.write(b"0123456789") == Err(IoFault::RawFault));
     let detached = writer.detach()?;
     assert!(rt; detached.unwritten.is_empty());
     assert!(rt; detached.place == Some(4)); // go on with the fifth byte
     Ok(())
+}
+
+#[test]
+fn a_large_write_that_fails_tells_how_far_it_came(rt: HostRuntime) -> Result<(), Fail> {
+    let alloc = rt.alloc();
+    // the raw takes four bytes, and then fails
+    let mut writer = writer_to(alloc, b"", &[Cut::Take(4), Cut::Break(0)], &[], 4)?;
+    lent_a_large_write_that_fails_tells_how_far_it_came(&rt, &mut writer)
 }
 
 #[test]

@@ -1,7 +1,10 @@
 //! Waits and faults of the readings, moves and flushes of a buffered stream that is read and written: examples of docs/FAULTS.md.
+use py_buffered_random::BufferedRandom;
 use py_example_streams::{gives, random_over, written_back};
 use py_raw::{IoFault, Life};
-use py_raw_memory::Cut;
+use py_raw_memory::{Cut, MemRaw};
+use std::alloc::Global;
+use std::process::Abort;
 use std::test::Fail;
 
 #[test]
@@ -18,11 +21,12 @@ fn a_reading_waits_until_what_is_owed_is_passed_on(rt: HostRuntime) -> Result<()
     Ok(())
 }
 
-#[test]
-fn a_reading_that_fails_gives_back_what_was_written(rt: HostRuntime) -> Result<(), Fail> {
-    let alloc = rt.alloc();
-    // the raw takes one byte, and then fails
-    let mut stream = random_over(alloc, b"0123456789", &[Cut::Take(1), Cut::Break(0)], &[], 4)?;
+/// The calls of `a_reading_that_fails_gives_back_what_was_written`, whose stream is lent: a `?` drops nothing of it.
+fn lent_a_reading_that_fails_gives_back_what_was_written(
+    rt: &impl Abort,
+    alloc: Global,
+    stream: &mut BufferedRandom<MemRaw>,
+) -> Result<(), Fail> {
     assert!(rt; stream.write(b"abc") == Ok(3));
     assert!(rt; stream.read(alloc, Some(4)) == Err(IoFault::RawFault));
     assert!(rt; stream.life() == Life::Failed); // every call but `detach` is refused now
@@ -38,10 +42,19 @@ fn a_reading_that_fails_gives_back_what_was_written(rt: HostRuntime) -> Result<(
 }
 
 #[test]
-fn a_raw_that_fails_to_be_read_has_what_was_written(rt: HostRuntime) -> Result<(), Fail> {
+fn a_reading_that_fails_gives_back_what_was_written(rt: HostRuntime) -> Result<(), Fail> {
     let alloc = rt.alloc();
-    // the raw takes what is owed, and then fails to be read
-    let mut stream = random_over(alloc, b"0123456789", &[Cut::Take(3), Cut::Break(0)], &[], 4)?;
+    // the raw takes one byte, and then fails
+    let mut stream = random_over(alloc, b"0123456789", &[Cut::Take(1), Cut::Break(0)], &[], 4)?;
+    lent_a_reading_that_fails_gives_back_what_was_written(&rt, alloc, &mut stream)
+}
+
+/// The calls of `a_raw_that_fails_to_be_read_has_what_was_written`, whose stream is lent: a `?` drops nothing of it.
+fn lent_a_raw_that_fails_to_be_read_has_what_was_written(
+    rt: &impl Abort,
+    alloc: Global,
+    stream: &mut BufferedRandom<MemRaw>,
+) -> Result<(), Fail> {
     assert!(rt; stream.write(b"abc") == Ok(3));
     assert!(rt; stream.read(alloc, Some(4)) == Err(IoFault::RawFault));
     let detached = stream.detach()?;
@@ -52,10 +65,19 @@ fn a_raw_that_fails_to_be_read_has_what_was_written(rt: HostRuntime) -> Result<(
 }
 
 #[test]
-fn bytes_between_two_writes_are_given_back_with_them(rt: HostRuntime) -> Result<(), Fail> {
+fn a_raw_that_fails_to_be_read_has_what_was_written(rt: HostRuntime) -> Result<(), Fail> {
     let alloc = rt.alloc();
-    // the raw is read, and then fails to be written to
-    let mut stream = random_over(alloc, b"0123456789", &[Cut::Take(8), Cut::Break(0)], &[], 8)?;
+    // the raw takes what is owed, and then fails to be read
+    let mut stream = random_over(alloc, b"0123456789", &[Cut::Take(3), Cut::Break(0)], &[], 4)?;
+    lent_a_raw_that_fails_to_be_read_has_what_was_written(&rt, alloc, &mut stream)
+}
+
+/// The calls of `bytes_between_two_writes_are_given_back_with_them`, whose stream is lent: a `?` drops nothing of it.
+fn lent_bytes_between_two_writes_are_given_back_with_them(
+    rt: &impl Abort,
+    alloc: Global,
+    stream: &mut BufferedRandom<MemRaw>,
+) -> Result<(), Fail> {
     assert!(rt; gives(&stream.read(alloc, Some(2)), b"01")); // eight bytes are held
     assert!(rt; stream.write(b"a") == Ok(1));
     assert!(rt; stream.seek(5, 0) == Ok(5));
@@ -65,6 +87,14 @@ fn bytes_between_two_writes_are_given_back_with_them(rt: HostRuntime) -> Result<
     assert!(rt; detached.unwritten.as_slice() == &b"a34b"[..]); // `3` and `4` are those of the raw
     assert!(rt; detached.place == Some(2));
     Ok(())
+}
+
+#[test]
+fn bytes_between_two_writes_are_given_back_with_them(rt: HostRuntime) -> Result<(), Fail> {
+    let alloc = rt.alloc();
+    // the raw is read, and then fails to be written to
+    let mut stream = random_over(alloc, b"0123456789", &[Cut::Take(8), Cut::Break(0)], &[], 8)?;
+    lent_bytes_between_two_writes_are_given_back_with_them(&rt, alloc, &mut stream)
 }
 
 #[test]
@@ -97,14 +127,12 @@ fn a_read1_alone_waits_for_what_is_owed_where_bytes_are_held(rt: HostRuntime) ->
     Ok(())
 }
 
-#[test]
-fn a_reading_that_fails_after_some_bytes_is_made_again_from_where_it_began(
-    rt: HostRuntime,
+/// The calls of `a_reading_that_fails_after_some_bytes_is_made_again_from_where_it_began`, whose stream is lent: a `?` drops nothing of it.
+fn lent_a_reading_that_fails_after_some_bytes_is_made_again_from_where_it_began(
+    rt: &impl Abort,
+    alloc: Global,
+    stream: &mut BufferedRandom<MemRaw>,
 ) -> Result<(), Fail> {
-    let alloc = rt.alloc();
-    // the raw takes what is owed, gives three bytes, and then fails
-    let plan = [Cut::Take(2), Cut::Take(3), Cut::Break(0)];
-    let mut stream = random_over(alloc, b"0123456789", &plan, &[], 4)?;
     assert!(rt; stream.write(b"ab") == Ok(2));
     assert!(rt; stream.tell() == Ok(2)); // where the reading begins
     assert!(rt; stream.read(alloc, Some(6)) == Err(IoFault::RawFault));
@@ -115,4 +143,19 @@ fn a_reading_that_fails_after_some_bytes_is_made_again_from_where_it_began(
     assert!(rt; stream.seek(2, 0) == Ok(2)); // from where it began, and not from 5
     assert!(rt; gives(&stream.read(alloc, Some(6)), b"234567"));
     Ok(())
+}
+
+#[test]
+fn a_reading_that_fails_after_some_bytes_is_made_again_from_where_it_began(
+    rt: HostRuntime,
+) -> Result<(), Fail> {
+    let alloc = rt.alloc();
+    // the raw takes what is owed, gives three bytes, and then fails
+    let plan = [Cut::Take(2), Cut::Take(3), Cut::Break(0)];
+    let mut stream = random_over(alloc, b"0123456789", &plan, &[], 4)?;
+    lent_a_reading_that_fails_after_some_bytes_is_made_again_from_where_it_began(
+        &rt,
+        alloc,
+        &mut stream,
+    )
 }

@@ -1,14 +1,18 @@
 //! Faults of the writes, the truncation and the closing of a buffered stream that is read and written: examples of docs/FAULTS.md.
+use py_buffered_random::BufferedRandom;
 use py_example_streams::{gives, random_over, three_lines, written_back};
 use py_raw::{IoFault, Life, RawStream};
 use py_raw_memory::{Cut, MemRaw};
+use std::alloc::Global;
+use std::process::Abort;
 use std::test::Fail;
 
-#[test]
-fn a_write_that_has_no_room_is_made_again_where_it_began(rt: HostRuntime) -> Result<(), Fail> {
-    let alloc = rt.alloc();
-    // the raw takes one byte, and then fails
-    let mut stream = random_over(alloc, b"0123456789", &[Cut::Take(1), Cut::Break(0)], &[], 4)?;
+/// The calls of `a_write_that_has_no_room_is_made_again_where_it_began`, whose stream is lent: a `?` drops nothing of it.
+fn lent_a_write_that_has_no_room_is_made_again_where_it_began(
+    rt: &impl Abort,
+    alloc: Global,
+    stream: &mut BufferedRandom<MemRaw>,
+) -> Result<(), Fail> {
     assert!(rt; stream.write(b"abc") == Ok(3));
     assert!(rt; stream.seek(1, 0) == Ok(1)); // where the next write begins
     assert!(rt; stream.write(b"wxyz") == Err(IoFault::RawFault)); // there was no room, and the raw failed
@@ -19,16 +23,25 @@ fn a_write_that_has_no_room_is_made_again_where_it_began(rt: HostRuntime) -> Res
     let mut stream = written_back(alloc, detached, 4)?;
     assert!(rt; stream.seek(1, 0) == Ok(1)); // 1 and 0: it stood behind `bc`
     assert!(rt; stream.write(b"wxyz") == Ok(4));
-    let detached = stream.detach().expect(&rt, "a raw");
+    let detached = stream.detach().expect(rt, "a raw");
     assert!(rt; detached.raw.bytes_of() == &b"awxyz56789"[..]);
     Ok(())
 }
 
 #[test]
-fn a_large_write_that_fails_goes_on_behind_what_was_taken(rt: HostRuntime) -> Result<(), Fail> {
+fn a_write_that_has_no_room_is_made_again_where_it_began(rt: HostRuntime) -> Result<(), Fail> {
     let alloc = rt.alloc();
-    // the raw takes four bytes, and then fails
-    let mut stream = random_over(alloc, b"0123456789", &[Cut::Take(4), Cut::Break(0)], &[], 4)?;
+    // the raw takes one byte, and then fails
+    let mut stream = random_over(alloc, b"0123456789", &[Cut::Take(1), Cut::Break(0)], &[], 4)?;
+    lent_a_write_that_has_no_room_is_made_again_where_it_began(&rt, alloc, &mut stream)
+}
+
+/// The calls of `a_large_write_that_fails_goes_on_behind_what_was_taken`, whose stream is lent: a `?` drops nothing of it.
+fn lent_a_large_write_that_fails_goes_on_behind_what_was_taken(
+    rt: &impl Abort,
+    alloc: Global,
+    stream: &mut BufferedRandom<MemRaw>,
+) -> Result<(), Fail> {
     assert!(rt; stream.write(b"abcdefghi") == Err(IoFault::RawFault));
     assert!(rt; stream.life() == Life::Failed);
     assert!(rt; stream.taken() == 4); // the raw has them
@@ -37,9 +50,17 @@ fn a_large_write_that_fails_goes_on_behind_what_was_taken(rt: HostRuntime) -> Re
     assert!(rt; detached.place == Some(4));
     let mut stream = written_back(alloc, detached, 4)?;
     assert!(rt; stream.write(b"efghi") == Ok(5)); // from the fifth byte on
-    let detached = stream.detach().expect(&rt, "a raw");
+    let detached = stream.detach().expect(rt, "a raw");
     assert!(rt; detached.raw.bytes_of() == &b"abcdefghi9"[..]);
     Ok(())
+}
+
+#[test]
+fn a_large_write_that_fails_goes_on_behind_what_was_taken(rt: HostRuntime) -> Result<(), Fail> {
+    let alloc = rt.alloc();
+    // the raw takes four bytes, and then fails
+    let mut stream = random_over(alloc, b"0123456789", &[Cut::Take(4), Cut::Break(0)], &[], 4)?;
+    lent_a_large_write_that_fails_goes_on_behind_what_was_taken(&rt, alloc, &mut stream)
 }
 
 #[test]
@@ -63,11 +84,12 @@ fn lines_that_fail_go_on_behind_what_was_taken(rt: HostRuntime) -> Result<(), Fa
     Ok(())
 }
 
-#[test]
-fn a_truncate_that_fails_to_pass_on_is_made_again(rt: HostRuntime) -> Result<(), Fail> {
-    let alloc = rt.alloc();
-    // the raw takes one byte, and then fails
-    let mut stream = random_over(alloc, b"0123456789", &[Cut::Take(1), Cut::Break(0)], &[], 4)?;
+/// The calls of `a_truncate_that_fails_to_pass_on_is_made_again`, whose stream is lent: a `?` drops nothing of it.
+fn lent_a_truncate_that_fails_to_pass_on_is_made_again(
+    rt: &impl Abort,
+    alloc: Global,
+    stream: &mut BufferedRandom<MemRaw>,
+) -> Result<(), Fail> {
     assert!(rt; stream.write(b"abc") == Ok(3));
     assert!(rt; stream.truncate(Some(5)) == Err(IoFault::RawFault));
     assert!(rt; stream.life() == Life::Failed);
@@ -77,9 +99,17 @@ fn a_truncate_that_fails_to_pass_on_is_made_again(rt: HostRuntime) -> Result<(),
     assert!(rt; detached.place == Some(1));
     let mut stream = written_back(alloc, detached, 4)?;
     assert!(rt; stream.truncate(Some(5)) == Ok(5));
-    let detached = stream.detach().expect(&rt, "a raw");
+    let detached = stream.detach().expect(rt, "a raw");
     assert!(rt; detached.raw.bytes_of() == &b"abc34"[..]);
     Ok(())
+}
+
+#[test]
+fn a_truncate_that_fails_to_pass_on_is_made_again(rt: HostRuntime) -> Result<(), Fail> {
+    let alloc = rt.alloc();
+    // the raw takes one byte, and then fails
+    let mut stream = random_over(alloc, b"0123456789", &[Cut::Take(1), Cut::Break(0)], &[], 4)?;
+    lent_a_truncate_that_fails_to_pass_on_is_made_again(&rt, alloc, &mut stream)
 }
 
 #[test]
