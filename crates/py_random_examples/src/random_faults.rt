@@ -1,5 +1,5 @@
 //! Waits and faults of the readings, moves and flushes of a buffered stream that is read and written: examples of docs/FAULTS.md.
-use py_buffered_random::BufferedRandom;
+use py_buffered::BufferedRandom;
 use py_example_streams::{gives, random_over, written_back};
 use py_raw::{IoFault, Life};
 use py_raw_memory::{Cut, MemRaw};

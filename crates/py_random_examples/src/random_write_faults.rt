@@ -1,5 +1,5 @@
 //! Faults of the writes, the truncation and the closing of a buffered stream that is read and written: examples of docs/FAULTS.md.
-use py_buffered_random::BufferedRandom;
+use py_buffered::BufferedRandom;
 use py_example_streams::{gives, random_over, three_lines, written_back};
 use py_raw::{IoFault, Life, RawStream};
 use py_raw_memory::{Cut, MemRaw};
