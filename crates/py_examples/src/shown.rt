@@ -29,7 +29,7 @@ fn a_reader_shows_where_it_stands_and_not_its_buffer(rt: HostRuntime) -> Result<
     assert!(rt;
         has(
             text.as_str(),
-            "BufferedReader { inner: Buffered { data: Some(BufferedData { live: LiveRaw { raw: MemRaw {"
+            "BufferedOver { inner: Buffered { data: Some(BufferedData { live: LiveRaw { raw: MemRaw {"
         )
     );
     assert!(rt; has(text.as_str(), "access: Read, life: Live"));
