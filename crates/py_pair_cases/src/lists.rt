@@ -40,9 +40,22 @@ fn pair_of(
     }
 }
 
-/// Prints what a reading of n bytes answers.
-fn read(rt: &HostRuntime, pair: &mut BufferedRWPair<MemRaw, MemRaw>, size: usize) -> Result<()> {
-    match pair.read(rt.alloc(), Some(size)) {
+/// A call of a pair.
+#[derive(Clone, Copy)]
+enum Step {
+    /// Reads so many bytes.
+    Read(usize),
+    /// Writes a text's bytes.
+    Write(&'static str),
+    /// Passes on what was written.
+    Flush,
+    /// Closes the writer, and then the reader; prints which of the two is closed.
+    Close,
+}
+
+/// Prints what a reading of n bytes answered.
+fn print_read(rt: &HostRuntime, size: usize, answer: Result<Option<Vec<u8>>, IoFault>) -> Result<()> {
+    match answer {
         Ok(Some(bytes)) => println!(rt; "read {size}: {}", str::from_utf8(&bytes)?)?,
         Ok(None) => println!(rt; "read {size}: not ready")?,
         Err(fault) => println!(rt; "read {size}: {fault}")?,
@@ -50,9 +63,9 @@ fn read(rt: &HostRuntime, pair: &mut BufferedRWPair<MemRaw, MemRaw>, size: usize
     Ok(())
 }
 
-/// Prints what a write answers.
-fn write(rt: &HostRuntime, pair: &mut BufferedRWPair<MemRaw, MemRaw>, text: &str) -> Result<()> {
-    match pair.write(text.as_bytes()) {
+/// Prints what a write answered.
+fn print_write(rt: &HostRuntime, text: &str, answer: Result<usize, IoFault>) -> Result<()> {
+    match answer {
         Ok(count) => println!(rt; "write {text}: {count}")?,
         Err(fault) => println!(rt; "write {text}: {fault}")?,
     }
@@ -60,7 +73,7 @@ fn write(rt: &HostRuntime, pair: &mut BufferedRWPair<MemRaw, MemRaw>, text: &str
 }
 
 /// Prints what a call answered that has nothing to give.
-fn done(rt: &HostRuntime, call: &str, answer: Result<(), IoFault>) -> Result<()> {
+fn print_done(rt: &HostRuntime, call: &str, answer: Result<(), IoFault>) -> Result<()> {
     match answer {
         Ok(()) => println!(rt; "{call}: done")?,
         Err(fault) => println!(rt; "{call}: {fault}")?,
@@ -69,17 +82,38 @@ fn done(rt: &HostRuntime, call: &str, answer: Result<(), IoFault>) -> Result<()>
 }
 
 /// Prints which of the two is closed.
-fn closed(rt: &HostRuntime, pair: &BufferedRWPair<MemRaw, MemRaw>) -> Result<()> {
-    println!(rt;
-        "closed: writer {}, reader {}",
-        pair.closed(),
-        pair.reader().closed()
-    )?;
+fn print_closed(rt: &HostRuntime, writer: bool, reader: bool) -> Result<()> {
+    println!(rt; "closed: writer {writer}, reader {reader}")?;
+    Ok(())
+}
+
+/// Makes a call, and prints what it answers.
+fn make(rt: &HostRuntime, pair: &mut BufferedRWPair<MemRaw, MemRaw>, step: Step) -> Result<()> {
+    match step {
+        Step::Read(size) => print_read(rt, size, pair.read(rt.alloc(), Some(size))),
+        Step::Write(text) => print_write(rt, text, pair.write(text.as_bytes())),
+        Step::Flush => print_done(rt, "flush", pair.flush()),
+        Step::Close => {
+            print_done(rt, "close", pair.close())?;
+            print_closed(rt, pair.closed(), pair.reader().closed())
+        }
+    }
+}
+
+/// Makes calls one after another, and prints what each answers.
+fn make_all(
+    rt: &HostRuntime,
+    pair: &mut BufferedRWPair<MemRaw, MemRaw>,
+    steps: &[Step],
+) -> Result<()> {
+    for step in steps {
+        make(rt, pair, *step)?;
+    }
     Ok(())
 }
 
 /// Prints what both raws have, and what the writer's is owed.
-fn parts(rt: &HostRuntime, pair: BufferedRWPair<MemRaw, MemRaw>) -> Result<()> {
+fn print_parts(rt: &HostRuntime, pair: BufferedRWPair<MemRaw, MemRaw>) -> Result<()> {
     let (reader, writer) = pair.into_parts();
     if let Some(reader) = reader {
         println!(rt; "reader: {}", str::from_utf8(reader.raw.bytes_of())?)?;
@@ -94,59 +128,51 @@ fn parts(rt: &HostRuntime, pair: BufferedRWPair<MemRaw, MemRaw>) -> Result<()> {
     Ok(())
 }
 
+/// Makes calls on a pair, and prints what each answers and what both raws have in the end.
+fn run(
+    rt: &HostRuntime,
+    title: &str,
+    pair: BufferedRWPair<MemRaw, MemRaw>,
+    steps: &[Step],
+) -> Result<()> {
+    let mut pair = pair;
+    println!(rt; "== {title}")?;
+    make_all(rt, &mut pair, steps)?;
+    print_parts(rt, pair)
+}
+
 /// Reads and writes by turns; neither sees the other.
 pub(crate) fn reads_and_writes(rt: &HostRuntime) -> Result<()> {
-    println!(rt; "== reads and writes")?;
-    let mut pair = pair_of(rt.alloc(), &[], &[], &[])?;
-    read(rt, &mut pair, 1)?;
-    write(rt, &mut pair, "z")?;
-    let flushed = pair.flush();
-    done(rt, "flush", flushed)?;
-    read(rt, &mut pair, 1)?;
-    let ended = pair.close();
-    done(rt, "close", ended)?;
-    closed(rt, &pair)?;
-    write(rt, &mut pair, "z")?;
-    read(rt, &mut pair, 1)?;
-    parts(rt, pair)
+    let pair = pair_of(rt.alloc(), &[], &[], &[])?;
+    let steps = [
+        Step::Read(1),
+        Step::Write("z"),
+        Step::Flush,
+        Step::Read(1),
+        Step::Close,
+        Step::Write("z"),
+        Step::Read(1),
+    ];
+    run(rt, "reads and writes", pair, &steps)
 }
 
 /// The writer's raw would block at the close, once.
 pub(crate) fn waits_at_the_close(rt: &HostRuntime) -> Result<()> {
-    println!(rt; "== the writer has to wait at the close")?;
-    let mut pair = pair_of(rt.alloc(), &[Cut::Take(1), Cut::Wait], &[], &[])?;
-    write(rt, &mut pair, "abc")?;
-    let first = pair.close();
-    done(rt, "close", first)?;
-    closed(rt, &pair)?;
-    read(rt, &mut pair, 3)?;
-    let second = pair.close();
-    done(rt, "close", second)?;
-    closed(rt, &pair)?;
-    parts(rt, pair)
+    let pair = pair_of(rt.alloc(), &[Cut::Take(1), Cut::Wait], &[], &[])?;
+    let steps = [Step::Write("abc"), Step::Close, Step::Read(3), Step::Close];
+    run(rt, "the writer has to wait at the close", pair, &steps)
 }
 
 /// The writer's raw fails as it is written to at the close.
 pub(crate) fn fails_at_the_close(rt: &HostRuntime) -> Result<()> {
-    println!(rt; "== the writer fails at the close")?;
-    let mut pair = pair_of(rt.alloc(), &[Cut::Break(1)], &[], &[])?;
-    write(rt, &mut pair, "abc")?;
-    let ended = pair.close();
-    done(rt, "close", ended)?;
-    closed(rt, &pair)?;
-    parts(rt, pair)
+    let pair = pair_of(rt.alloc(), &[Cut::Break(1)], &[], &[])?;
+    run(rt, "the writer fails at the close", pair, &[Step::Write("abc"), Step::Close])
 }
 
 /// Both raws fail to close.
 pub(crate) fn both_fail_at_the_close(rt: &HostRuntime) -> Result<()> {
-    println!(rt; "== both fail at the close")?;
-    let mut pair = pair_of(rt.alloc(), &[], &[0], &[0])?;
-    let ended = pair.close();
-    done(rt, "close", ended)?;
-    closed(rt, &pair)?;
-    let again = pair.close();
-    done(rt, "close", again)?;
-    parts(rt, pair)
+    let pair = pair_of(rt.alloc(), &[], &[0], &[0])?;
+    run(rt, "both fail at the close", pair, &[Step::Close, Step::Close])
 }
 
 /// Prints why two raws are refused, and what is handed back.
