@@ -119,6 +119,20 @@ fn laid_at(
 }
 
 impl Apart {
+    /// A raw over which nothing was opened.
+    pub fn of_raw(alloc: Global, raw: MemRaw) -> Apart {
+        Apart {
+            held: Held {
+                is_closed: raw.closed(),
+                raw: Some(raw.into_bytes()),
+                owed: Vec::new(alloc),
+                owed_at: None,
+            },
+            unwritten: Vec::new(alloc),
+            at: None,
+        }
+    }
+
     /// The bytes of the raw, with those laid on that the stream owes, and then those that the text owes.
     pub fn all(&self, alloc: Global) -> Result<Vec<u8>, AllocError> {
         let raw = match &self.held.raw {

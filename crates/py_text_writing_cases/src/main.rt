@@ -1,5 +1,5 @@
 //! Writes texts beside the plain slow text, in every encoding, by every handler and newline rule, in pieces of many sizes, in chunks and
-//! through buffers of many sizes, over raw streams that move a byte at a time, wait before any transfer or fail at any call, and prints how
+//! through buffers of many sizes, by themselves and as sessions, over raw streams that move a byte at a time, wait before any transfer or fail at any call, and prints how
 //! many answers came; it ends at the first that differs. Before that it runs the cases of the files that are its words. `stdout` has
 //! what must come.
 //!
@@ -13,6 +13,7 @@ mod flat;
 mod pieces;
 mod runs;
 mod sweep;
+mod tried;
 mod writing;
 
 use anyhow::Result;
@@ -58,6 +59,7 @@ fn main(rt: HostRuntime) -> Result<()> {
         Sweep::Waits,
         Sweep::Faults,
         Sweep::Read,
+        Sweep::Sessions,
     ] {
         run_sweep(&rt, which)?;
     }

@@ -1,6 +1,7 @@
 //! What is varied of a text.
 use py_plain::Handler;
 use py_raw_memory::Cut;
+use py_text_session::Access;
 use py_text_trials::{Asking, HANDLERS};
 
 /// What is varied besides the settings.
@@ -16,6 +17,8 @@ pub(crate) enum Sweep {
     Faults,
     /// Texts that are read between their writes, over all of these raws.
     Read,
+    /// Sessions that write, append, or also read, over all of these raws.
+    Sessions,
 }
 
 /// How a text ends.
@@ -35,6 +38,8 @@ pub(crate) enum Over {
     Writer,
     Appender,
     Random,
+    /// A session, over a raw.
+    Session(Access),
 }
 
 /// A text that is written: what it is over, what its raw does, the sizes of chunk and buffer, what is read between the writes, and its end.
@@ -133,6 +138,7 @@ impl Sweep {
             Sweep::Waits => "waits",
             Sweep::Faults => "faults",
             Sweep::Read => "read",
+            Sweep::Sessions => "sessions",
         }
     }
 
@@ -143,6 +149,7 @@ impl Sweep {
             Sweep::Waits => 12,
             Sweep::Faults => 16,
             Sweep::Read => 46,
+            Sweep::Sessions => 138,
         }
     }
 
@@ -150,6 +157,7 @@ impl Sweep {
     pub fn handlers(self) -> &'static [Handler] {
         match self {
             Sweep::Read => &HANDLERS,
+            Sweep::Sessions => &[Handler::Strict],
             _ => &WRITING,
         }
     }
@@ -161,19 +169,25 @@ impl Sweep {
             Sweep::Waits => by_wait(number),
             Sweep::Faults => by_fault(number),
             Sweep::Read => by_all(number),
+            Sweep::Sessions => by_all(number % 46),
         };
         let turned = number.wrapping_add(turn);
         Run {
-            over: self.over(),
+            over: self.over(number),
             end: ENDS[turned % ENDS.len()],
             readings: turned / ENDS.len() % 3,
             ..run
         }
     }
 
-    /// What its texts are over.
-    fn over(self) -> Over {
+    /// What its text of a number is over.
+    fn over(self, number: usize) -> Over {
         match self {
+            Sweep::Sessions => Over::Session(match number / 46 {
+                0 => Access::Write,
+                1 => Access::Append,
+                _ => Access::Update,
+            }),
             Sweep::Appended => Over::Appender,
             Sweep::Read => Over::Random,
             _ => Over::Writer,
@@ -181,10 +195,17 @@ impl Sweep {
     }
 }
 
+impl Over {
+    /// Whether it is read, too.
+    pub fn reads(self) -> bool {
+        matches!(self, Over::Random | Over::Session(Access::Update))
+    }
+}
+
 impl Run {
     /// What is read behind the piece of a number.
     pub fn reading(self, number: usize) -> Option<Asking> {
-        if self.over != Over::Random {
+        if !self.over.reads() {
             return None;
         }
         match (self.readings, number % 4) {

@@ -3,18 +3,22 @@ ghost use Rattle.std.specs.Prelude.{IfOk};
 ghost use Rattle.py_raw_memory.specs.MemRaw.{shown as raw_shown};
 ghost use Rattle.py_stream.specs.Opening.{StandsAtStart};
 
-use crate::apart::{Apart, Under, take_text_apart};
+use crate::apart::Apart;
 use crate::flat::Flat;
 use crate::pieces::{Piece, SAMPLES, pieces_of};
 use crate::runs::{End, Over, Run, Sweep};
+use crate::tried::Tried;
 use crate::writing::{Counts, finish, is_ended, write_all};
 use anyhow::{Result, anyhow};
 use py_buffered::{BufferedRandom, BufferedWriter};
+use py_flat::IoFault;
 use py_plain::{Encoding, Handler};
 use py_plain_text::PlainSettings;
 use py_raw::RawFlags;
 use py_raw_memory::MemRaw;
+use py_stream::NewRefused;
 use py_text::{Coder, TextSettings};
+use py_text_session::{Access, TextSession};
 use py_text_trials::{Came, ENCODINGS, HANDLERS, RULES, failing, raw_of, steps};
 use py_textio::TextIOWrapper;
 use std::alloc::{AllocError, Global};
@@ -85,7 +89,7 @@ impl Trial<'_> {
         match came {
             Came::Differs => Ok(false),
             Came::Faulted => {
-                if self.run.over == Over::Random && flat.was_held(alloc, apart)? {
+                if self.run.over.reads() && flat.was_held(alloc, apart)? {
                     return Ok(true);
                 }
                 flat.is_held(alloc, apart)
@@ -101,9 +105,9 @@ impl Trial<'_> {
 }
 
 /// Makes the calls of a trial on a text and on the flat one, and answers what came of its end.
-fn try_calls<B: Under>(
+fn try_calls<T: Tried>(
     alloc: Global,
-    text: &mut TextIOWrapper<B>,
+    text: &mut T,
     flat: &mut Flat,
     trial: Trial<'_>,
     counts: &mut Counts,
@@ -121,16 +125,16 @@ fn try_calls<B: Under>(
 }
 
 /// Makes the calls of a trial, and takes the text apart.
-fn try_text<B: Under>(
+fn try_text<T: Tried>(
     alloc: Global,
-    text: TextIOWrapper<B>,
+    text: T,
     flat: &mut Flat,
     trial: Trial<'_>,
     counts: &mut Counts,
 ) -> Result<(Came, Apart), AllocError> {
     let mut text = text;
     let came = try_calls(alloc, &mut text, flat, trial, counts);
-    Ok((came, take_text_apart(alloc, text)?))
+    Ok((came, text.take_apart(alloc)?))
 }
 
 /// Tries a text over a writer.
@@ -173,6 +177,38 @@ fn over_random(
     Ok(try_text(alloc, text, flat, trial, counts)?)
 }
 
+/// Tries a session, whose handler is strict. Its opening may be what the raw fails.
+fn over_raw(
+    alloc: Global,
+    flat: &mut Flat,
+    trial: Trial<'_>,
+    access: Access,
+    counts: &mut Counts,
+) -> Result<(Came, Apart)> {
+    if access == Access::Append {
+        flat.go_to_end(alloc)?;
+    }
+    if trial.run.buffer_size == 0 || trial.run.chunk_size == 0 {
+        return Err(anyhow!("a session without room: {:?}", trial.run));
+    }
+    let raw = trial.raw(alloc, RawFlags::able(true, true, true))?;
+    let coder = Coder {
+        encoding: trial.settings.encoding,
+        errors: Handler::Strict,
+    };
+    let size = trial.run.buffer_size;
+    match TextSession::new(alloc, raw, access, size, coder, trial.text_settings()) {
+        Ok(text) => Ok(try_text(alloc, text, flat, trial, counts)?),
+        Err(NewRefused { raw, fault }) => {
+            if fault != IoFault::RawFault || raw.fault_count() != 1 {
+                return Err(fault.into());
+            }
+            counts.faults = counts.faults.saturating_add(1);
+            Ok((Came::Faulted, Apart::of_raw(alloc, raw)))
+        }
+    }
+}
+
 /// Tries a text, and compares what stands in the end.
 fn try_one(alloc: Global, trial: Trial<'_>, counts: &mut Counts) -> Result<bool> {
     let mut flat = Flat::new(alloc, BYTES, trial.settings)?;
@@ -181,6 +217,7 @@ fn try_one(alloc: Global, trial: Trial<'_>, counts: &mut Counts) -> Result<bool>
         Over::Writer => over_writer(alloc, &mut flat, trial, counts)?,
         Over::Appender => over_appender(alloc, &mut flat, trial, counts)?,
         Over::Random => over_random(alloc, &mut flat, trial, counts)?,
+        Over::Session(access) => over_raw(alloc, &mut flat, trial, access, counts)?,
     };
     Ok(trial.fits(alloc, &flat, came, &apart)?)
 }

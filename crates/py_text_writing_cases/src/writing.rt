@@ -2,10 +2,9 @@
 use crate::flat::Flat;
 use crate::pieces::Piece;
 use crate::runs::{End, Run};
+use crate::tried::Tried;
 use py_flat::IoFault;
-use py_stream::BufferedStream;
 use py_text_trials::{Asking, Came};
-use py_textio::TextIOWrapper;
 use std::alloc::Global;
 
 /// What came of texts.
@@ -50,9 +49,9 @@ impl Counts {
 }
 
 /// Writes a piece to both.
-fn write<B: BufferedStream>(
+fn write<T: Tried>(
     alloc: Global,
-    text: &mut TextIOWrapper<B>,
+    text: &mut T,
     flat: &mut Flat,
     piece: &Piece,
     counts: &mut Counts,
@@ -65,24 +64,24 @@ fn write<B: BufferedStream>(
 }
 
 /// Reads from both.
-fn read<B: BufferedStream>(
+fn read<T: Tried>(
     alloc: Global,
-    text: &mut TextIOWrapper<B>,
+    text: &mut T,
     flat: &mut Flat,
     asking: Asking,
     counts: &mut Counts,
 ) -> Came {
-    let answer = asking.of(alloc, text);
+    let answer = text.ask(alloc, asking);
     let is_refused = answer.is_err();
-    let came = flat.came_of_reading(alloc, asking, answer, text.short());
+    let came = flat.came_of_reading(alloc, asking, answer, text.is_short());
     counts.count(came, is_refused);
     came
 }
 
 /// Writes the pieces to both, and reads between them: `Same` where each call was answered, in full or short.
-pub(crate) fn write_all<B: BufferedStream>(
+pub(crate) fn write_all<T: Tried>(
     alloc: Global,
-    text: &mut TextIOWrapper<B>,
+    text: &mut T,
     flat: &mut Flat,
     pieces: &[Piece],
     run: Run,
@@ -106,11 +105,7 @@ pub(crate) fn write_all<B: BufferedStream>(
 }
 
 /// Ends a text: `Same` where the raw has all, `Short` where it was taken apart with nothing done before.
-pub(crate) fn finish<B: BufferedStream>(
-    text: &mut TextIOWrapper<B>,
-    end: End,
-    counts: &mut Counts,
-) -> Came {
+pub(crate) fn finish<T: Tried>(text: &mut T, end: End, counts: &mut Counts) -> Came {
     // A raw that would block once is asked again.
     for _ in 0..3 {
         let answer = match end {
@@ -133,8 +128,8 @@ pub(crate) fn finish<B: BufferedStream>(
 }
 
 /// Whether a text that the raw failed answers so: it is failed, or was closed.
-pub(crate) fn is_ended<B: BufferedStream>(alloc: Global, text: &mut TextIOWrapper<B>) -> bool {
-    if text.closed() {
+pub(crate) fn is_ended<T: Tried>(alloc: Global, text: &mut T) -> bool {
+    if text.is_closed() {
         return text.write(alloc, "a") == Err(IoFault::Closed) && text.close() == Ok(());
     }
     text.write(alloc, "a") == Err(IoFault::Failed)
