@@ -12,7 +12,6 @@ pub mod TextAllowed
 pub mod CookieLaws
 pub mod TextOver
 pub mod CookieView
-pub mod CallsSoFar
 pub mod TextExamples
 pub mod PlainSteps
 pub mod PlainView

@@ -7,11 +7,9 @@ ghost use Rattle.py_plain.specs.Units.{Order, Unknown};
 ghost use Rattle.py_plain.specs.Handlers.{reads_texts};
 ghost use Rattle.py_plain_text.specs.TextFile.{TextFile, clean_at};
 ghost use Rattle.py_plain_text.specs.Rest.{text_rest};
-ghost use Rattle.py_plain_text.specs.TextStep.{TextCall, TextStep, text_exact};
 ghost use Rattle.py_plain_text.specs.TextCalls.{TextFileCall, SeekText};
 ghost use Rattle.py_plain_text.specs.TextExact.{exact};
 ghost use Rattle.py_plain_text.specs.TextAllowed.{TextFileStep};
-ghost use Rattle.py_plain_text.specs.CallsSoFar.{whole_call};
 ghost use Rattle.py_plain_text.specs.PlainSteps.{PlainStep};
 ghost use Rattle.py_plain_text.specs.Cookie.{built, cookie_bytes, parsed};
 ghost use Rattle.py_plain_text.specs.CookieView.{cookie_shown};
@@ -28,15 +26,6 @@ use crate::TextIOCookie;
 pub fn plain_steps()
     ensures { (before : TextFile) (call : TextFileCall) (reply : FileReply) (after : TextFile) → PlainStep before call reply after
         → TextFileStep before call reply false false after }
-{}
-
-/// What a call of a text session does, of those that it has so far, is what that call of any text may do.
-///
-/// It does nothing: what it ensures is a law of the definitions.
-pub fn steps_so_far()
-    ensures exact { (file : TextFile) (call : TextCall) → exact file (whole_call call) ≡ text_exact file call }
-    ensures step { (before : TextFile) (call : TextCall) (reply : FileReply) (waited faulted : Bool) (after : TextFile) → TextStep before call reply waited faulted after
-        → TextFileStep before (whole_call call) reply waited faulted after }
 {}
 
 /// The bytes that a cookie is built as are parsed as that cookie, whatever its fields are.

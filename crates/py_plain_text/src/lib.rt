@@ -22,7 +22,7 @@ pub use examples::{
 };
 pub use laws::{
     a_text_is_sought_back_to_where_it_told, built_cookies_are_parsed,
-    calls_leave_texts_where_cookies_tell, plain_steps, steps_so_far, told_boundaries_give_the_rest,
+    calls_leave_texts_where_cookies_tell, plain_steps, told_boundaries_give_the_rest,
     told_places_give_the_rest,
 };
 pub use plain_place::PlainSettings;
