@@ -46,7 +46,7 @@ among engine is opened = subst (λ (opened : Access). HasShape opened engine.raw
 
 -- a call that gives bytes to a live one
 pub may_keep : (engine : EngineView) (call : FileCall) → Stands engine → engine.access ≡ access.Update → engine.life ≡ life.Live → engine.short ≡ false → is_writing call ≡ true → (stream_of engine).place + length (payload call) ≤ greatest_place → MayKeep (stream_of engine) call
-may_keep engine call is opened live whole writing within = record { writing = writing; sound = is_sound engine is; live = live; whole = whole; can = ap is_written opened; size = engine.window.size; buffered = refl; within = within }
+may_keep engine call is opened live whole writing within = record { gives = record { writing = writing; sound = is_sound engine is; live = live; can = ap is_written opened; within = within }; whole = whole; size = engine.window.size; buffered = refl }
 
 -- Bytes put at the place.
 
@@ -255,7 +255,7 @@ module _ (old new : EngineView) (is : Stands old) (opened : old.access ≡ acces
       let owes : OwesBehind (stream_of new) = owes_behind new now behind in
       let none : (stream_of new).owed ≡ nothing_owed (stream_of new).place = nothing_behind (stream_of new) owes settled.2 in
       settled_writes (stream_of old) (stream_of new) after call reply gives.writing (record {
-        settled = record { live = live; writes = may.can; buffered = refl; accepted = accepts_kept (stream_of old) call may; settled_by = settled };
+        settled = record { live = live; writes = may.gives.can; buffered = refl; accepted = accepts_kept (stream_of old) call may; settled_by = settled };
         roomless = gives.roomless;
         none = none;
         stands = omega (arith, owes.stands, owes.ends, ap length settled.2);

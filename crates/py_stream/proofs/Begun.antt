@@ -1,14 +1,15 @@
 -- What a call answers doesn't hang on whether the answer before was short.
-use Rattle.std.proofs.Common.{◌≡◌, ℕ, ℤ, pos, suc, zero, inl, inr, Bool, true, false, IsTrue, List, take, refl, arith}
+use Rattle.std.proofs.Common.{◌≡◌, ℕ, ℤ, pos, suc, zero, inl, inr, Bool, true, false, IsTrue, List, take, refl, arith, rules}
 use Rattle.py_flat.specs.declared.fault.IoFault.TheVariants as fault
+use Rattle.py_flat.specs.declared.life.Life.TheVariants as life
 use Rattle.py_flat.specs.Calls.{FileCall, Seek, Tell, FileReply, Place, Done, Refused}
 use Rattle.py_flat.specs.BinaryStep.{payload}
 use Rattle.py_raw.specs.RawStream.{WhereTold}
-use Rattle.py_stream.specs.Stream.{Stream}
-use Rattle.py_stream.specs.Kinds.{is_writing, has_room}
-use Rattle.py_stream.specs.Writing.{OwesUpTo, OwesBehind, Takes, PassesFront, LaysInOrder, OwesSome, OwesBoth, IsEndOf, SeekTargets, StopsAway, PassesOn, OwesNoneOfIts, Writes}
+use Rattle.py_stream.specs.Stream.{Stream, nothing_owed}
+use Rattle.py_stream.specs.Kinds.{is_writing, has_room, says_no_memory, is_reading, reads_on, asks_none, calls_none, by_several}
+use Rattle.py_stream.specs.Writing.{OwesUpTo, OwesBehind, Takes, PassesFront, LaysInOrder, OwesSome, OwesBoth, IsEndOf, SeekTargets, StopsAway, PassesOn, OwesNoneOfIts, Writes, HasRoom, TakesAlone, TookOwn}
 use Rattle.py_stream.proofs.Coming.{came_seen, each_seen}
-use Rattle.py_stream.specs.Answers.{Answers, AnswersWith, Leaves, IsAhead, SeeksFromEnd, EndMoves, SeeksByEnd, StaysAmong, WentTo, SeekStands, closes_again}
+use Rattle.py_stream.specs.Answers.{Answers, AnswersWith, Leaves, IsAhead, SeeksFromEnd, EndMoves, SeeksByEnd, StaysAmong, WentTo, SeekStands, closes_again, StarvesReading, AsksNothing, IsIdle, InHand, StaysHeld, CameByReads, AsksNoMore, SparesBytes}
 
 -- a stream whose last answer was short, or wasn't
 abbrev pub seen : Bool → Stream → Stream
@@ -90,61 +91,24 @@ module _ (short : Bool) where
   straight_whole before after call reply is = grind arith
 
   writes_seen : (before after : Stream) (call : FileCall) (reply : FileReply) → Writes (seen short before) call reply after → Writes before call reply after
-  writes_seen before after call reply written = record {
-    owes = λ writing. owed_both before after (payload call) (written.owes writing);
-    takes = taken before after call written.takes;
-    room = λ writing has. let is = written.room writing (record { lives = has.lives; buffered = has.buffered; within = has.within; room = has.room; stands = has.stands }) in record { says = is.says; whole = is.whole; raw = is.raw; raw_place = is.raw_place; owes = is.owes; held = is.held };
-    leaves = λ spares. front_passed before after (written.leaves spares);
-    stands = λ behind. written.stands (owed_behind before behind);
-    lays = laid before call after.raw.bytes written.lays;
-    passes = passed before after call reply written.passes;
-    full = written.full;
-    starves = λ wants writing failed. let took = written.starves wants writing failed in record { further = took.further; stands = took.stands; answered = took.answered };
-    straight = straight_whole before after call reply written.straight;
-    settles = written.settles;
-    unclosed = written.unclosed;
-    rests = written.rests;
-  }
+  writes_seen before after call reply written =
+      let room : IsTrue (is_writing call) → HasRoom before (payload call) → TakesAlone before call reply after = λ writing has. let is = written.room writing (record { lives = has.lives; buffered = has.buffered; within = has.within; room = has.room; stands = has.stands }) in record { says = is.says; whole = is.whole; raw = is.raw; raw_place = is.raw_place; owes = is.owes; held = is.held } in
+      let starves : IsTrue (says_no_memory reply) → IsTrue (is_writing call) → after.life ≡ life.Failed → TookOwn before after = λ wants writing failed. let took = written.starves wants writing failed in record { further = took.further; stands = took.stands; answered = took.answered } in
+      search (rules, owed_both, taken, front_passed, owed_behind, laid, passed, straight_whole, written.owes, written.takes, written.leaves, written.stands)
 
   -- a call of a stream, as of one whose last answer was short, or wasn't
   answers_as : (room : FileCall → Bool) (before after : Stream) (call : FileCall) (reply : FileReply) → AnswersWith room (seen short before) call reply after → AnswersWith room before call reply after
-  answers_as room before after call reply answers = record {
-    keeps = record { buffer = answers.keeps.buffer; can = answers.keeps.can; raw = answers.keeps.raw; bare = answers.keeps.bare };
-    refused = λ why refuses. leaves before after (Refused why) reply (answers.refused why refuses);
-    again = again before after call reply answers.again;
-    shut = answers.shut;
-    parted = answers.parted;
-    causes = answers.causes;
-    counted = answers.counted;
-    shorts = answers.shorts;
-    moves = record { life_is = answers.moves.life_is; place = answers.moves.place; far = answers.moves.far; within = answers.moves.within };
-    ends = by_end before after call reply answers.ends;
-    seeks = stands_seen before after call reply answers.seeks;
-    wants = answers.wants;
-    goes_on = λ reads ahead. answers.goes_on reads (ahead_as before ahead);
-    goes_past = answers.goes_past;
-    starves = λ wanting reads. let starved = answers.starves wanting reads in record { ahead = λ was. let same = starved.ahead (ahead_as before was) in record { unmoved = same.unmoved; moved = same.moved; stands = same.stands }; left = starved.left; unread = starved.unread };
-    first = answers.first;
-    nothing = λ asks. let none = answers.nothing asks in record { raw = none.raw; fault = none.fault };
-    idle = λ keeps. let still = answers.idle keeps in record { raw = still.raw; fault = still.fault; memory = still.memory };
-    single = answers.single;
-    once = answers.once;
-    passes_first = answers.passes_first;
-    in_hand = λ has. let none = answers.in_hand (record { lives = has.lives; buffered = has.buffered; of = has.of }) in record { raw = none.raw; fault = none.fault };
-    owing = λ has. let stays = answers.owing (record { lives = has.lives; buffered = has.buffered; of = has.of }) in record { owed = stays.owed; held = stays.held };
-    brings = λ reads ahead. came_seen (seen short before) before after after 1 refl refl refl refl (answers.brings reads (ahead_as before ahead));
-    unread = answers.unread;
-    needs = λ reads ahead. let asks = answers.needs reads (ahead_as before ahead) in record { enough = λ whole within buffered. let idle = asks.enough whole within buffered in record { raw = idle.raw; fault = idle.fault }; whole = λ whole. each_seen (seen short before) before after after 0 0 refl refl refl refl (asks.whole whole); needed = asks.needed; last = each_seen (seen short before) before after after 1 1 refl refl refl refl asks.last };
-    spares = λ reads none. let spared = answers.spares reads none in record { bytes = spared.bytes; written = spared.written; owed = spared.owed; still = spared.still };
-    writes = λ can. writes_seen before after call reply (answers.writes can);
-    answer = answers.answer;
-    at_once = answers.at_once;
-    complete = answers.complete;
-    told = answers.told;
-    reach = answers.reach;
-    near = answers.near;
-    hides = answers.hides;
-  }
+  answers_as room before after call reply answers =
+      let goes_on : IsTrue (is_reading call) → IsAhead before → IsAhead after = λ reads ahead. answers.goes_on reads (ahead_as before ahead) in
+      let starves : IsTrue (says_no_memory reply) → IsTrue (reads_on call) → StarvesReading before after = λ wanting reads. let starved = answers.starves wanting reads in record { ahead = λ was. let same = starved.ahead (ahead_as before was) in record { unmoved = same.unmoved; moved = same.moved; stands = same.stands }; left = starved.left; unread = starved.unread } in
+      let nothing : IsTrue (asks_none before.buffer call) → AsksNothing before reply after = λ asks. let none = answers.nothing asks in record { raw = none.raw; fault = none.fault } in
+      let idle : IsTrue (calls_none before.buffer before.can.writable call) → IsIdle before reply after = λ keeps. let still = answers.idle keeps in record { raw = still.raw; fault = still.fault; memory = still.memory } in
+      let in_hand : InHand before call → AsksNothing before reply after = λ has. let none = answers.in_hand (record { lives = has.lives; buffered = has.buffered; of = has.of }) in record { raw = none.raw; fault = none.fault } in
+      let owing : InHand before call → StaysHeld before after = λ has. let stays = answers.owing (record { lives = has.lives; buffered = has.buffered; of = has.of }) in record { owed = stays.owed; held = stays.held } in
+      let brings : IsTrue (is_reading call) → IsAhead before → CameByReads 1 before after = λ reads ahead. came_seen (seen short before) before after after 1 refl refl refl refl (answers.brings reads (ahead_as before ahead)) in
+      let needs : IsTrue (by_several before.buffer call) → IsAhead before → AsksNoMore before call reply after = λ reads ahead. let asks = answers.needs reads (ahead_as before ahead) in record { enough = λ whole within buffered. let idle = asks.enough whole within buffered in record { raw = idle.raw; fault = idle.fault }; whole = λ whole. each_seen (seen short before) before after after 0 0 refl refl refl refl (asks.whole whole); needed = asks.needed; last = each_seen (seen short before) before after after 1 1 refl refl refl refl asks.last } in
+      let spares : before.can.writable ≡ false → before.owed ≡ nothing_owed before.place → SparesBytes before call after = λ reads none. let spared = answers.spares reads none in record { bytes = spared.bytes; written = spared.written; owed = spared.owed; still = spared.still } in
+      search (rules, leaves, again, by_end, stands_seen, writes_seen, answers.refused, answers.writes)
 
 -- what a call does with the bytes of a stream doesn't hang on whether the last answer before it was short
 pub writes_whole : (before after : Stream) (call : FileCall) (reply : FileReply) → Writes (whole before) call reply after → Writes before call reply after

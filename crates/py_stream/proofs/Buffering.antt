@@ -1,5 +1,5 @@
 -- A stream over a raw one is a buffered stream for the layer above it.
-use Rattle.std.proofs.Common.{◌≡◌, ◌≢◌, ⊎_elim, ℕ, ℤ, pos, suc, zero, inl, Bool, true, false, IsTrue, List, [], inr, length, take, subst, Option, Some, None, IsSome, unwrap_or, refl, sym, ap, ◌∙◌, arith}
+use Rattle.std.proofs.Common.{◌≡◌, ◌≢◌, ⊎_elim, ℕ, ℤ, pos, suc, zero, inl, Bool, true, false, IsTrue, List, [], inr, length, subst, Option, Some, None, IsSome, unwrap_or, refl, sym, ap, ◌∙◌, arith, rules}
 use Rattle.std.proofs.lemmas.List.{append-nil}
 use Rattle.py_flat.specs.declared.fault.IoFault.{IoFault}
 use Rattle.py_flat.specs.declared.life.Life.{Life}
@@ -73,31 +73,13 @@ some_so was taken before after new (inr (inl alone)) = inr (inl (record { passed
 some_so was taken before after new (inr (inr fills)) = inr (inr (record { passed = fills.passed; answered = fills.answered; cut = fills.cut; leaves = fills.leaves }))
 
 both_so : (was taken : ℕ) (before after : Stream) (bytes : List ℕ) → OwesBoth before bytes after → OwesBoth (shown before was) bytes (shown after taken)
-both_so was taken before after bytes both = record {
-  taken = both.taken;
-  within = both.within;
-  place = both.place;
-  owes = λ some. some_so was taken before after (take both.taken bytes) (both.owes some);
-  none = both.none;
-  told = both.told;
-}
+both_so was taken before after bytes both = search (rules, some_so, both.owes)
 
 behind_so : (was : ℕ) (before : Stream) → OwesBehind (shown before was) → OwesBehind before
 behind_so was before behind = record { ends = behind.ends; stands = behind.stands }
 
 front_taken_so : (was taken : ℕ) (before after : Stream) (bytes : List ℕ) → Takes before bytes after → Takes (shown before was) bytes (shown after taken)
-front_taken_so was taken before after bytes takes = record {
-  taken = takes.taken;
-  within = takes.within;
-  place = takes.place;
-  passed = takes.passed;
-  most = takes.most;
-  answered = takes.answered;
-  forth = λ behind. takes.forth (behind_so was before behind);
-  owed = takes.owed;
-  up_to = takes.up_to;
-  told = takes.told;
-}
+front_taken_so was taken before after bytes takes = grind (arith, behind_so)
 
 owes_so : (was taken : ℕ) (before after : Stream) (call : FileCall) (reply : FileReply) → IsTrue (is_made call) → Writes before call reply after → BufferOwes (buffer_of before was) call (buffer_of after taken)
 owes_so was taken before after (Write bytes) reply made writes = record { both = both_so was taken before after bytes (writes.owes refl); takes = λ up_to. front_taken_so was taken before after bytes (writes.takes refl up_to) }

@@ -61,44 +61,44 @@ part_steps file after call reply false faulted work passes carried = settled (su
 part_answers : (old new : Stream) (call : FileCall) (reply : FileReply) (count : ℕ) (short : Bool) → MayWrite old call → count ≤ length (payload call) → IsPart old count old.buffer call reply short → Took old (take count (payload call)) new → (IsTrue short → length new.owed.bytes ≡ size_of new) → (IsTrue short → Rose old.raw.waits new.raw.waits) → (short ≡ false → Calm old.buffer old.raw new.raw) → (IsTrue short → WaitsAsOne old.buffer old.raw new.raw) → OneTransfer old call new → (HasRoom old (payload call) → TakesAlone old call reply (record new { short = short })) → Answers old call reply (record new { short = short })
 part_answers old new call reply count short may fits is took filled waited calm once one room =
     let own : List ℕ = payload call in
-    let life_is : LifeMoves old.buffer call reply old.life new.life = is.life_is old.life new.life (took.live ∙ sym may.live) in
+    let life_is : LifeMoves old.buffer call reply old.life new.life = is.life_is old.life new.life (took.live ∙ sym may.gives.live) in
     let place : PlaceMoves old.buffer call reply new.life old.place new.place = is.place new.life old.place new.place (omega (arith, took_ends old new (take count own) took, length-take-le count own fits)) in
     let causes : HasCauses old.raw reply new.raw short = record { waits = waited; faults = λ faulted. absurd (cc (is.no_fault)) } in
-    let counted : IsTrue old.raw.counts_exactly → IsCounted old.buffer old.raw call reply new.raw short = λ exact. record { faults = λ _. took.no_fault exact; waits = λ whole ends. calm_counts old.buffer call old.raw new.raw may.writing (calm whole) ends exact; once = λ cut ends. one_counts old.buffer call old.raw new.raw may.writing (once cut) ends exact } in
+    let counted : IsTrue old.raw.counts_exactly → IsCounted old.buffer old.raw call reply new.raw short = λ exact. record { faults = λ _. took.no_fault exact; waits = λ whole ends. calm_counts old.buffer call old.raw new.raw may.gives.writing (calm whole) ends exact; once = λ cut ends. one_counts old.buffer call old.raw new.raw may.gives.writing (once cut) ends exact } in
     let wants : IsTrue (says_no_memory reply) → IsTrue old.raw.takes_memory = λ wanting. absurd (cc (is.no_want)) in
     let starves : IsTrue (says_no_memory reply) → new.life ≡ life.Failed → TookOwn old (record new { short = short }) = λ wanting. absurd (cc (is.no_want)) in
     let full : BlocksFull call reply (record new { short = short }) = is.full (record new { short = short }) (λ cut. record { up_to = omega (arith, filled cut, took.behind.ends); owes = filled cut }) in
     let straight = is.straight (record new { short = short }) in
-    let told : WhereTold old.raw (BinaryStep (file_of old) call reply short (says_fault reply) (file_of new)) = λ tells. part_steps (file_of old) (file_of new) call reply short (says_fault reply) (works old call may) (accepted old call may) (is.steps (file_of new) (took_file old new (take count own) may.live took tells)) in
-    answers_coming old new call reply short may (search (rules, takes_front, lays_taken))
+    let told : WhereTold old.raw (BinaryStep (file_of old) call reply short (says_fault reply) (file_of new)) = λ tells. part_steps (file_of old) (file_of new) call reply short (says_fault reply) (works old call may.gives) (accepted old call may.gives) (is.steps (file_of new) (took_file old new (take count own) may.gives.live took tells)) in
+    answers_coming old new call reply short may (search (rules, takes_front, lays_taken)) (search (rules, takes_front, lays_taken))
 
 -- some were taken
 pub takes_answers : (old new : Stream) (call : FileCall) (count : ℕ) → MayWrite old call → count ≤ length (payload call) → TakesCount old.buffer call count → Took old (take count (payload call)) new → Calm old.buffer old.raw new.raw → OneTransfer old call new → (HasRoom old (payload call) → TakesAlone old call (taken_reply call count) (record new { short = false })) → Answers old call (taken_reply call count) (record new { short = false })
-takes_answers old new call count may fits counts took calm one room = part_answers old new call (taken_reply call count) count false may fits (is_taken old count old.buffer call may.writing fits counts) took (λ short. absurd (cc)) (λ short. absurd (cc)) (λ whole. calm) (λ short. absurd (cc)) one room
+takes_answers old new call count may fits counts took calm one room = part_answers old new call (taken_reply call count) count false may fits (is_taken old count old.buffer call may.gives.writing fits counts) took (λ short. absurd (cc)) (λ short. absurd (cc)) (λ whole. calm) (λ short. absurd (cc)) one room
 
 -- the raw would have blocked
 pub waits_answers : (old new : Stream) (call : FileCall) (taken : ℕ) → MayWrite old call → taken ≤ length (payload call) → WaitsCount old.buffer call taken → Took old (take taken (payload call)) new → length new.owed.bytes ≡ size_of new → Rose old.raw.waits new.raw.waits → WaitsAsOne old.buffer old.raw new.raw → OneTransfer old call new → (HasRoom old (payload call) → ⊥) → Answers old call (waited_reply old.buffer call taken) (record new { short = true })
-waits_answers old new call taken may fits counts took full waited once one roomless = part_answers old new call (waited_reply old.buffer call taken) taken true may fits (is_blocked old taken old.buffer call may.writing counts) took (λ _. full) (λ _. waited) (λ whole. absurd (cc)) (λ _. once) one (λ has. absurd (roomless has))
+waits_answers old new call taken may fits counts took full waited once one roomless = part_answers old new call (waited_reply old.buffer call taken) taken true may fits (is_blocked old taken old.buffer call may.gives.writing counts) took (λ _. full) (λ _. waited) (λ whole. absurd (cc)) (λ _. once) one (λ has. absurd (roomless has))
 
 -- The raw failed.
 pub faults_answers : (old new : Stream) (call : FileCall) → MayWrite old call → (fails : FailsTaking old (payload call) new) → FailsCount old.buffer call fails.taken → OneTransfer old call new → OwesNoneOfIts old call (Refused fault.RawFault) (record new { short = false }) → (HasRoom old (payload call) → ⊥) → Answers old call (Refused fault.RawFault) (record new { short = false })
 faults_answers old new call may fails counts one straight roomless =
     let own : List ℕ = payload call in
-    let is = is_faulted old fails.taken old.buffer call may.writing in
+    let is = is_faulted old fails.taken old.buffer call may.gives.writing in
     let ends : new.place ≡ old.place + fails.taken = fails_ends old new own fails in
     let life_is : LifeMoves old.buffer call (Refused fault.RawFault) old.life new.life = subst (LifeMoves old.buffer call (Refused fault.RawFault) old.life) (sym fails.failed) (is.life_is old.life) in
     let place : PlaceMoves old.buffer call (Refused fault.RawFault) new.life old.place new.place = is.place new.life old.place new.place counts ends in
-    let counted : IsTrue old.raw.counts_exactly → IsCounted old.buffer old.raw call (Refused fault.RawFault) new.raw false = λ exact. record { faults = λ sound. absurd (cc); waits = λ _ ends. calm_counts old.buffer call old.raw new.raw may.writing fails.calm ends exact; once = λ short. absurd (cc) } in
+    let counted : IsTrue old.raw.counts_exactly → IsCounted old.buffer old.raw call (Refused fault.RawFault) new.raw false = λ exact. record { faults = λ sound. absurd (cc); waits = λ _ ends. calm_counts old.buffer call old.raw new.raw may.gives.writing fails.calm ends exact; once = λ short. absurd (cc) } in
     let takes : Takes old own (record new { short = false }) = record { taken = fails.taken; within = fails.fits; place = ends; passed = fails.passed; most = fails.within; answered = fails.answered; forth = λ _. omega (arith, fails.behind.stands, fails.place, fails.was.stands); owed = fails.owed; up_to = inr fails.behind.ends; told = λ tells. let laid = fails_bytes old new own fails tells in (laid.count, laid.least_is, laid.fits, laid.bytes) } in
     let lays = fails_lays old new own fails in
-    let answers = fault_answers old.buffer true call (no_tell call may.writing) in
+    let answers = fault_answers old.buffer true call (no_tell call may.gives.writing) in
     let told : WhereTold old.raw (BinaryStep (file_of old) call (Refused fault.RawFault) false true (file_of new)) = λ tells.
     let laid = fails_bytes old new own fails tells in
     raw_faulted refl refl (
-      work_reaches (file_of old) call (works old call may),
+      work_reaches (file_of old) call (works old call may.gives),
       is.faulted (file_of new) (laid.count, laid.fits, failed_file old new life.Failed (lay (file_of old).bytes old.place (take laid.count own)) fails.kept fails.failed laid.bytes),
     ) in
-    answers_coming old new call (Refused fault.RawFault) false may (search (rules, says_short, nothing_blocked))
+    answers_coming old new call (Refused fault.RawFault) false may (search (rules, says_short, nothing_blocked)) (search (rules, says_short, nothing_blocked))
 
 -- Memory ran out.
 
@@ -106,15 +106,15 @@ faults_answers old new call may fails counts one straight roomless =
 pub wants_answers : (old new : Stream) (call : FileCall) → MayWrite old call → IsTrue old.raw.takes_memory → Took old [] new → Calm old.buffer old.raw new.raw → OneTransfer old call new → OwesNoneOfIts old call (Refused fault.NoMemory) (record new { short = false }) → (HasRoom old (payload call) → ⊥) → Answers old call (Refused fault.NoMemory) (record new { short = false })
 wants_answers old new call may takes took calm one straight roomless =
     let own : List ℕ = payload call in
-    let is = is_faulted old 0 old.buffer call may.writing in
-    let life_is : LifeMoves old.buffer call (Refused fault.NoMemory) old.life new.life = subst (LifeMoves old.buffer call (Refused fault.NoMemory) old.life) (may.live ∙ sym took.live) (starves_alive old.buffer call old.life) in
+    let is = is_faulted old 0 old.buffer call may.gives.writing in
+    let life_is : LifeMoves old.buffer call (Refused fault.NoMemory) old.life new.life = subst (LifeMoves old.buffer call (Refused fault.NoMemory) old.life) (may.gives.live ∙ sym took.live) (starves_alive old.buffer call old.life) in
     let place : PlaceMoves old.buffer call (Refused fault.NoMemory) new.life old.place new.place = subst (PlaceMoves old.buffer call (Refused fault.NoMemory) new.life old.place) (sym (took_none_ends old new took)) (starves_there old.buffer call new.life old.place) in
-    let counted : IsTrue old.raw.counts_exactly → IsCounted old.buffer old.raw call (Refused fault.NoMemory) new.raw false = λ exact. record { faults = λ _. took.no_fault exact; waits = λ _ ends. calm_counts old.buffer call old.raw new.raw may.writing calm ends exact; once = λ short. absurd (cc) } in
+    let counted : IsTrue old.raw.counts_exactly → IsCounted old.buffer old.raw call (Refused fault.NoMemory) new.raw false = λ exact. record { faults = λ _. took.no_fault exact; waits = λ _ ends. calm_counts old.buffer call old.raw new.raw may.gives.writing calm ends exact; once = λ short. absurd (cc) } in
     let takes_none : Takes old own (record new { short = false }) = takes_front old new own 0 new.life false (omega arith) took in
     let lays = lays_taken old new own 0 (omega arith) took in
-    let answers = starve_answers old.buffer true call (no_tell call may.writing) in
-    let told : WhereTold old.raw (BinaryStep (file_of old) call (Refused fault.NoMemory) false false (file_of new)) = λ tells. out_of_memory refl (work_reaches (file_of old) call (works old call may), is.same (file_of new) (took_none_file old new may.live took tells)) in
-    answers_coming old new call (Refused fault.NoMemory) false may (search (rules, says_short, nothing_blocked))
+    let answers = starve_answers old.buffer true call (no_tell call may.gives.writing) in
+    let told : WhereTold old.raw (BinaryStep (file_of old) call (Refused fault.NoMemory) false false (file_of new)) = λ tells. out_of_memory refl (work_reaches (file_of old) call (works old call may.gives), is.same (file_of new) (took_none_file old new may.gives.live took tells)) in
+    answers_coming old new call (Refused fault.NoMemory) false may (search (rules, says_short, nothing_blocked)) (search (rules, says_short, nothing_blocked))
 
 -- a raw stands where what is owed belongs, and past the place of a call it took some of that call's own bytes
 took_own : (old new : Stream) (bytes : List ℕ) → Took old bytes new → old.place < new.owed.place → TookOwn old (record new { life = life.Failed; short = false })
@@ -124,7 +124,7 @@ took_own old new bytes took past = grind arith
 pub midway_answers : (old between : Stream) (call : FileCall) (taken : ℕ) → MayWrite old call → goes_on old.buffer call ≡ true → taken ≤ length (payload call) → IsTrue old.raw.takes_memory → Took old (take taken (payload call)) between → Calm old.buffer old.raw between.raw → OneTransfer old call between → old.place < between.owed.place → OwesNoneOfIts old call (Refused fault.NoMemory) (record between { life = life.Failed; short = false }) → (HasRoom old (payload call) → ⊥) → Answers old call (Refused fault.NoMemory) (record between { life = life.Failed; short = false })
 midway_answers old between call taken may goes fits takes took calm one past straight roomless =
     let own : List ℕ = payload call in
-    let is = is_faulted old taken old.buffer call may.writing in
+    let is = is_faulted old taken old.buffer call may.gives.writing in
     let new : Stream = record between { life = life.Failed } in
     let kept : KeepsOn old new = record { raw = took.kept.raw; stays = took.kept.stays; reads = took.kept.reads; buffer = took.kept.buffer; can = took.kept.can; short = took.kept.short; sound = fails_sound between took.kept.sound } in
     let long : length (take taken own) ≡ taken = length-take-le taken own fits in
@@ -134,14 +134,14 @@ midway_answers old between call taken may goes fits takes took calm one past str
     let shorts = says_short call fault.NoMemory in
     let life_is = is.starved_life old.life goes in
     let place = is.starved_place old.place between.place fits ends in
-    let counted : IsTrue old.raw.counts_exactly → IsCounted old.buffer old.raw call (Refused fault.NoMemory) between.raw false = λ exact. record { faults = λ _. took.no_fault exact; waits = λ _ ends. calm_counts old.buffer call old.raw between.raw may.writing calm ends exact; once = λ short. absurd (cc) } in
-    let answers = starve_answers old.buffer true call (no_tell call may.writing) in
+    let counted : IsTrue old.raw.counts_exactly → IsCounted old.buffer old.raw call (Refused fault.NoMemory) between.raw false = λ exact. record { faults = λ _. took.no_fault exact; waits = λ _ ends. calm_counts old.buffer call old.raw between.raw may.gives.writing calm ends exact; once = λ short. absurd (cc) } in
+    let answers = starve_answers old.buffer true call (no_tell call may.gives.writing) in
     let told : WhereTold old.raw (BinaryStep (file_of old) call (Refused fault.NoMemory) false false (file_of new)) = λ tells. out_of_memory refl (
-      work_reaches (file_of old) call (works old call may),
+      work_reaches (file_of old) call (works old call may.gives),
       is.starved (file_of new) (taken, some, fits, failed_file old new life.Failed (lay (file_of old).bytes old.place (take taken own)) kept refl (took_bytes old between (take taken own) took tells)),
     ) in
     let room : HasRoom old own → TakesAlone old call (Refused fault.NoMemory) (record new { short = false }) = λ has. absurd (roomless has) in
-    answers_coming old new call (Refused fault.NoMemory) false may (search (rules, nothing_blocked, takes_front, lays_taken, took_own))
+    answers_coming old new call (Refused fault.NoMemory) false may (search (rules, nothing_blocked, takes_front, lays_taken, took_own)) (search (rules, nothing_blocked, takes_front, lays_taken, took_own))
 
 -- up to where the call began all bytes are as they were
 cut_bytes : (owed front : List ℕ) (passed most : ℕ) → passed ≤ length owed → most ≡ length owed - passed → take most (drop passed (owed ++ front)) ≡ drop passed (owed ++ [])
@@ -255,18 +255,18 @@ takes_alone old new call writing took keeps = record {
 pub giving_takes : (first old new : Stream) (call : FileCall) → Begun first old call → TookAll old (payload call) new → KeepsWhatFits old (payload call) (Ok true) new → Answers first call (taken_reply call (length (payload call))) new
 giving_takes first old new call begun took room =
     as_left first old new call (taken_reply call (length (payload call))) begun.began took.took.kept
-    (takes_answers old new call (length (payload call)) begun.may (omega arith) (goes_on_all old.buffer call begun.may.writing begun.goes).all (took_all old new (payload call) took.took) took.calm (no_one old new call begun.many)
-    (λ has. takes_alone old new call begun.may.writing took.took (room (fits_behind old (payload call) begun.may.behind has begun.may.sound)).1))
+    (takes_answers old new call (length (payload call)) begun.may (omega arith) (goes_on_all old.buffer call begun.may.gives.writing begun.goes).all (took_all old new (payload call) took.took) took.calm (no_one old new call begun.many)
+    (λ has. takes_alone old new call begun.may.gives.writing took.took (room (fits_behind old (payload call) begun.may.behind has begun.may.gives.sound)).1))
 
 -- bytes that weren't all kept had no room
 no_room : (old new : Stream) (call : FileCall) (result : Result Bool IoFault) → MayWrite old call → KeepsWhatFits old (payload call) result new → (result ≡ Ok true → ⊥) → HasRoom old (payload call) → ⊥
-no_room old new call result may room stops has = stops (room (fits_behind old (payload call) may.behind has may.sound)).0
+no_room old new call result may room stops has = stops (room (fits_behind old (payload call) may.behind has may.gives.sound)).0
 
 -- the raw would have blocked, and the call is refused by how many were taken
 pub giving_blocks : (first old new left : Stream) (call : FileCall) (start : ℕ) (why : IoFault) → Begun first old call → start ≡ old.place → FillsUp old (payload call) new → KeepsWhatFits old (payload call) (Ok false) new → why ≡ fault.WouldBlock (new.place - start) → left ≡ record new { short = true } → Answers first call (Refused why) left
 giving_blocks first old new left call start why begun begins fills room says short =
     let fits : fills.taken ≤ length (payload call) = omega (arith, fills.less) in
-    let on : GoesOn old.buffer call = goes_on_all old.buffer call begun.may.writing begun.goes in
+    let on : GoesOn old.buffer call = goes_on_all old.buffer call begun.may.gives.writing begun.goes in
     let count : new.place - start ≡ fills.taken = omega (arith, begins, took_ends old new (take fills.taken (payload call)) fills.took, length-take-le fills.taken (payload call) fits) in
     let is : Refused (fault.WouldBlock fills.taken) ≡ Refused why = ap (λ (taken : ℕ). Refused (fault.WouldBlock taken)) (sym count) ∙ ap (λ (fault : IoFault). Refused fault) (sym says) in
     from_first first old call (Refused why) left begun.began
@@ -298,6 +298,6 @@ starves first old new call begun lack straight roomless = go lack.starved where
 pub giving_fails : (first old new : Stream) (call : FileCall) (start : ℕ) (why : IoFault) → Begun first old call → start ≡ old.place → PutsOutcome old (payload call) start (Err why) new → OwesNoneOfIts old call (Refused why) (record new { short = false }) → KeepsWhatFits old (payload call) (Err why) new → Answers first call (Refused why) new
 giving_fails first old new call start fault.RawFault begun begins fails straight room =
     as_left first old new call (Refused fault.RawFault) begun.began fails.kept
-    (faults_answers old new call begun.may fails ((goes_on_all old.buffer call begun.may.writing begun.goes).fails fails.taken fails.fits) (no_one old new call begun.many) straight (no_room old new call (Err fault.RawFault) begun.may room (λ same. absurd (cc))))
+    (faults_answers old new call begun.may fails ((goes_on_all old.buffer call begun.may.gives.writing begun.goes).fails fails.taken fails.fits) (no_one old new call begun.many) straight (no_room old new call (Err fault.RawFault) begun.may room (λ same. absurd (cc))))
 giving_fails first old new call start fault.NoMemory begun begins wants straight room = starves first old new call begun (subst (λ (at : ℕ). StarvesTaking old (payload call) at new) begins wants) straight (no_room old new call (Err fault.NoMemory) begun.may room (λ same. absurd (cc)))
 giving_fails first old new call start why begun begins never straight room = absurd never

@@ -1,5 +1,5 @@
 -- A call that gives bytes to a stream: what it is, whichever of the two it is, with a buffer or without, and what makes its answer.
-use Rattle.std.proofs.Common.{◌≡◌, ℕ, ◌+◌, ◌<◌, ◌≤◌, Bool, true, false, not, ◌||◌, IsTrue, List, [], length, take, drop, Option, Some, None, Ok, is_some, refl, sym, ap, ◌∙◌, subst, lt-ltb, arith}
+use Rattle.std.proofs.Common.{◌≡◌, ℕ, ◌+◌, ◌<◌, ◌≤◌, Bool, true, false, not, ◌||◌, IsTrue, List, [], length, take, drop, Option, Some, None, Ok, is_some, refl, sym, ap, ◌∙◌, subst, lt-ltb, arith, rules}
 use Rattle.std.proofs.lemmas.List.{take_all, length-take-le, take-append-drop}
 use Rattle.py_flat.specs.declared.fault.IoFault.TheVariants as fault
 use Rattle.py_flat.specs.declared.life.Life.{Life}
@@ -15,10 +15,11 @@ use Rattle.py_stream.specs.Stream.{Stream, size_of, file_of}
 use Rattle.py_stream.specs.Moving.{EndsWithin, Begins}
 use Rattle.py_stream.specs.Kinds.{is_reading, is_writing, goes_on, asks_none, calls_none, makes_one, outlasts, says_fault, says_no_memory}
 use Rattle.py_stream.specs.Writing.{OwesBehind, Takes, LaysFront, LaysInOrder, PassesOn, IsFull, BlocksFull, OwesNoneOfIts, TookOwn, HasRoom, answer_of_all, TakesAlone, Writes}
-use Rattle.py_stream.specs.Answers.{Answers, HasCauses, IsCounted, InHandOf, IsShort, LifeMoves, PlaceMoves, SeeksByEnd, SeekStands, IsReplyTo, closes_again, refused_by}
+use Rattle.py_stream.specs.Answers.{Answers, KeepsStream, ClosedWith, InHand, HasCauses, IsCounted, InHandOf, IsShort, LifeMoves, PlaceMoves, SeeksByEnd, SeekStands, IsReplyTo, closes_again, refused_by}
 use Rattle.py_stream.specs.Keeping.{IsSound, KeepsOn}
 use Rattle.py_stream.specs.Taking.{Calm, WaitsAsOne}
 use Rattle.py_stream.proofs.Completing.{completes}
+use Rattle.py_stream.proofs.Showing.{not_refused}
 use Rattle.py_stream.proofs.Stopping.{GivesNone, gives_none}
 use Rattle.py_stream.proofs.Owing.{owes_both}
 use Rattle.py_stream.proofs.Coming.{near_seen, read_never}
@@ -80,27 +81,25 @@ lines_too_far end None ends none = ends
 
 -- What is accepted.
 
--- a call that gives bytes, of a live stream that may place them
-pub record MayWrite (old : Stream) (call : FileCall) : Type 0 where
+-- a call that gives bytes, of a live stream that may place them, wherever what it owes lies
+pub record MayGive (old : Stream) (call : FileCall) : Type 0 where
   pub writing : is_writing call ≡ true
   pub sound : IsSound old
-  pub behind : OwesBehind old
   pub live : old.life ≡ life.Live
   pub can : old.can.writable ≡ true
   pub within : old.place + length (payload call) ≤ greatest_place
 
 -- a stream that may place a call's bytes doesn't refuse the call
-pub accepted : (old : Stream) (call : FileCall) → MayWrite old call → refusal (file_of old) call ≡ None
+pub accepted : (old : Stream) (call : FileCall) → MayGive old call → refusal (file_of old) call ≡ None
 accepted old call may = grind arith
 
 -- the raw may be called
-pub works : (old : Stream) (call : FileCall) → MayWrite old call → IsTrue (does_work (file_of old) call)
+pub works : (old : Stream) (call : FileCall) → MayGive old call → IsTrue (does_work (file_of old) call)
 works old call may = grind arith
 
 -- what a call that gives bytes left, but for whether a wait cut it short
-pub record Comes (old : Stream) (call : FileCall) (reply : FileReply) (short : Bool) (new : Stream) : Type 0 where
+pub record Left (old : Stream) (call : FileCall) (reply : FileReply) (short : Bool) (new : Stream) : Type 0 where
   pub kept : KeepsOn old new
-  pub behind : OwesBehind new
   pub is_open : is_closed new.life ≡ false
   pub causes : HasCauses old.raw reply new.raw short
   pub counted : IsTrue old.raw.counts_exactly → IsCounted old.buffer old.raw call reply new.raw short
@@ -109,64 +108,43 @@ pub record Comes (old : Stream) (call : FileCall) (reply : FileReply) (short : B
   pub place : PlaceMoves old.buffer call reply new.life old.place new.place
   pub wants : IsTrue (says_no_memory reply) → IsTrue old.raw.takes_memory
   pub one : IsTrue (makes_one old.buffer call) → WhereTransfers old.raw (new.raw.transfers ≤ old.raw.transfers + 1)
+  pub answers : IsReplyTo old.buffer true call reply
+  pub told : WhereTold old.raw (BinaryStep (file_of old) call reply short (says_fault reply) (file_of new))
+
+-- what a call that gives bytes left, and did with them, answers it
+pub answers_left : (old new : Stream) (call : FileCall) (reply : FileReply) (short : Bool) → MayGive old call → Left old call reply short new → Writes old call reply (record new { short = short }) → Answers old call reply (record new { short = short })
+answers_left old new call reply short may left writes =
+    let giving : IsGiving call = is_giving call may.writing in
+    let gives : GivesNone call = gives_none call giving.reads in
+    let unrefused : refused_by old call ≡ None = refused_alone old call (giving.asks (file_of old)) ∙ accepted old call may in
+    let answers : IsReplyTo old.buffer old.can.writable call reply = subst (λ (writes : Bool). IsReplyTo old.buffer writes call reply) (sym may.can) left.answers in
+    let keeps : KeepsStream old (record new { short = short }) = record { buffer = left.kept.buffer; can = left.kept.can; raw = left.kept.raw; bare = λ bare _. left.kept.sound.bare (left.kept.buffer ∙ bare) } in
+    let shut : ClosedWith old.life old.raw → ClosedWith new.life new.raw = λ closed. left.kept.stays ∙ closed ∙ ap is_closed may.live ∙ sym left.is_open in
+    let unheld : InHand old call → ⊥ = λ has. giving.unheld old has.of in
+    search (rules, completes, near_seen, read_never, not_refused)
+
+-- such a call of a stream that owes what lies right before its place, or nothing
+pub record MayWrite (old : Stream) (call : FileCall) : Type 0 where
+  pub gives : MayGive old call
+  pub behind : OwesBehind old
+
+-- what such a stream took of the call's bytes, and owes
+pub record Gave (old : Stream) (call : FileCall) (reply : FileReply) (short : Bool) (new : Stream) : Type 0 where
+  pub behind : OwesBehind new
   pub takes : Takes old (payload call) (record new { short = short })
   pub room : HasRoom old (payload call) → TakesAlone old call reply (record new { short = short })
   pub lays : WhereTold old.raw (LaysFront old (payload call) new.raw.bytes)
   pub full : BlocksFull call reply (record new { short = short })
   pub straight : OwesNoneOfIts old call reply (record new { short = short })
   pub starves : IsTrue (says_no_memory reply) → new.life ≡ life.Failed → TookOwn old (record new { short = short })
-  pub answers : IsReplyTo old.buffer true call reply
-  pub told : WhereTold old.raw (BinaryStep (file_of old) call reply short (says_fault reply) (file_of new))
 
 -- what a call that gives bytes did with them
-coming_writes : (old new : Stream) (call : FileCall) (reply : FileReply) (short : Bool) → MayWrite old call → Comes old call reply short new → Writes old call reply (record new { short = short })
-coming_writes old new call reply short may comes = grind (arith, is_giving, owes_both)
+coming_writes : (old new : Stream) (call : FileCall) (reply : FileReply) (short : Bool) → MayWrite old call → KeepsOn old new → Gave old call reply short new → Writes old call reply (record new { short = short })
+coming_writes old new call reply short may kept gave = grind (arith, is_giving, owes_both)
 
--- what a call that gives bytes left answers it
-pub answers_coming : (old new : Stream) (call : FileCall) (reply : FileReply) (short : Bool) → MayWrite old call → Comes old call reply short new → Answers old call reply (record new { short = short })
-answers_coming old new call reply short may comes =
-    let left : Stream = record new { short = short } in
-    let giving : IsGiving call = is_giving call may.writing in
-    let gives : GivesNone call = gives_none call giving.reads in
-    let unrefused : refused_by old call ≡ None = refused_alone old call (giving.asks (file_of old)) ∙ accepted old call may in
-    let answers : IsReplyTo old.buffer old.can.writable call reply = subst (λ (writes : Bool). IsReplyTo old.buffer writes call reply) (sym may.can) comes.answers in
-    record {
-      keeps = record { buffer = comes.kept.buffer; can = comes.kept.can; raw = comes.kept.raw; bare = λ bare _. comes.kept.sound.bare (comes.kept.buffer ∙ bare) };
-      refused = λ why refuses. absurd (let wrong : None ≡ Some why = sym unrefused ∙ refuses in cc);
-      again = λ closes. absurd (cc (giving.closes old));
-      parted = λ _. comes.kept.stays;
-      shut = λ _ none closed. comes.kept.stays ∙ closed ∙ ap is_closed may.live ∙ sym comes.is_open;
-      causes = comes.causes;
-      counted = comes.counted;
-      shorts = comes.shorts;
-      moves = record { life_is = comes.life_is; place = comes.place; far = comes.kept.sound.far; within = gives.within (size_of old) reply };
-      ends = giving.ends old reply left;
-      seeks = giving.seeks old reply left;
-      wants = λ wanting room. comes.wants wanting;
-      goes_on = λ reads. absurd (cc (giving.reads));
-      goes_past = λ reads. absurd (cc (giving.reads));
-      starves = λ wanting reads. absurd (cc (gives.going_on));
-      first = λ wanting first. absurd (cc (gives.first));
-      nothing = λ asks. absurd (cc (giving.some old.buffer));
-      idle = λ keeps. absurd (cc (giving.calls old.buffer old.can.writable));
-      single = λ single none. comes.one single;
-      once = λ single. read_never old left comes.kept.reads;
-      passes_first = λ _ single. absurd (cc (gives.single));
-      in_hand = λ has. absurd (giving.unheld old has.of);
-      owing = λ has. absurd (giving.unheld old has.of);
-      brings = λ reads. absurd (cc (giving.reads));
-      unread = λ _. comes.kept.reads;
-      needs = λ reads. absurd (cc (gives.several old.buffer));
-      spares = λ reads. absurd (cc (may.can));
-      writes = λ can. coming_writes old new call reply short may comes;
-      answer = λ accepts. answers;
-      at_once = λ failed. absurd (cc (may.live));
-      complete = λ accepts calm sound. completes old.raw new.raw old.buffer old.can.writable call reply short comes.causes comes.shorts answers calm sound;
-      told = comes.told;
-      reach = λ reads. absurd (cc (giving.reads));
-      near = λ lives. near_seen new short (comes.kept.sound.near lives);
-      hides = λ shortened reads. absurd (cc (giving.reads));
-    }
+-- what a call that gives bytes left of such a stream answers it
+pub answers_coming : (old new : Stream) (call : FileCall) (reply : FileReply) (short : Bool) → MayWrite old call → Left old call reply short new → Gave old call reply short new → Answers old call reply (record new { short = short })
+answers_coming old new call reply short may left gave = answers_left old new call reply short may.gives left (coming_writes old new call reply short may left.kept gave)
 
 -- no wait ends a call but where it is counted
 pub calm_counts : (buffer : Option ℕ) (call : FileCall) (old new : Raw) → is_writing call ≡ true → Calm buffer old new → outlasts buffer call ≡ false → NoWait old new

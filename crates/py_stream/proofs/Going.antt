@@ -15,10 +15,10 @@ use Rattle.py_flat.specs.ExactStep.{seek_target}
 use Rattle.py_flat.specs.AllowedStep.{settled}
 use Rattle.py_flat.specs.BinaryStep.{BinaryStep, SettledBy}
 use Rattle.py_flat.proofs.Laying.{length-lay}
-use Rattle.py_raw.specs.RawStream.{WhereTold, KeepsBytes, LeavesCounts, AnswersFor}
+use Rattle.py_raw.specs.RawStream.{WhereTold, LeavesCounts}
 use Rattle.py_raw.proofs.Telling.{keeps_same, tells_its_bytes}
 use Rattle.py_raw.proofs.ReadingOn.{no_fault_then, no_wait_then}
-use Rattle.py_stream.specs.Stream.{Span, Stream, file_of, nothing_owed, nothing_held}
+use Rattle.py_stream.specs.Stream.{Span, Stream, file_of, nothing_owed}
 use Rattle.py_stream.specs.Writing.{GoesAway, IsEndOf, SeekTargets, StopsAway, StandsBare, Writes}
 use Rattle.py_stream.specs.Answers.{Answers, Leaves, SeeksTo, SeeksFromEnd, InHandOf, InHand, StaysHeld, IsAmong, StaysAmong, WentTo, SparesBytes, IsCounted}
 use Rattle.py_stream.specs.Keeping.{KeepsOn}
@@ -174,6 +174,14 @@ stops_away old found offset whence target finds buffered beyond = record { targe
 sought_at : (file after : FlatFile) (sought target : ℕ) → sought ≡ target → after ≡ record file { place = target } → ◌≡◌ {A = FileReply × FlatFile} (Place target, after) (Place sought, record file { place = sought })
 sought_at file after sought target same is = grind arith
 
+-- so a seek that went there is the model's step
+sought_told : (old new : Stream) (offset whence : ℤ) (target : ℕ) → Goes old offset whence target → new.short ≡ false → WhereTold old.raw (file_of new ≡ record (file_of old) { place = target }) → WhereTold old.raw (BinaryStep (file_of old) (Seek offset whence) (Place target) new.short false (file_of new))
+sought_told old new offset whence target to short file tells =
+    let lies : (seek_target (file_of old) offset whence ≡ target) × (refusal (file_of old) (Seek offset whence) ≡ None) = to.lies (tells_its_bytes old.raw tells) in
+    subst (λ (said : Bool). BinaryStep (file_of old) (Seek offset whence) (Place target) said false (file_of new)) (sym short)
+    (settled (subst (λ (refused : Option IoFault). SettledBy (file_of old) (Seek offset whence) refused (Place target) (file_of new)) (sym lies.1)
+    (sought_at (file_of old) (file_of new) (seek_target (file_of old) offset whence) target lies.0 (file tells))))
+
 -- The stream goes among the bytes held, and its raw isn't called.
 
 -- what a step among the bytes held keeps
@@ -216,14 +224,7 @@ owed_stays false target owed some = refl
 
 -- so it stays, and the bytes held, and the raw where it stood
 step_among : (old found new : Stream) (target : ℕ) → FoundOut old found → StepsTo found target true new → StaysAmong old new
-step_among old found new target out steps = record {
-  owed = step_owes old found new target out steps;
-  belongs = λ some. ap (λ (stream : Stream). stream.owed.place) steps.2 ∙ owed_stays (nat_eq (length found.owed.bytes) 0) target found.owed (λ none. some (ap (λ (stream : Stream). stream.owed.bytes) steps.2 ∙ none)) ∙ ap (λ (owed : Owed). owed.place) out.stands.owed;
-  held = ap (λ (stream : Stream). stream.held) steps.2 ∙ out.stands.held;
-  raw_place = ap (λ (stream : Stream). stream.raw_place) steps.2 ∙ out.stands.raw_place;
-  raw_bytes = subst (KeepsBytes old.raw) (sym (ap (λ (stream : Stream). stream.raw) steps.2)) out.stands.bytes;
-  answered = subst (AnswersFor 0 old.raw) (sym (ap (λ (stream : Stream). stream.raw) steps.2)) out.stands.answered;
-}
+step_among old found new target out steps = grind (arith, step_owes, owed_stays)
 
 -- a front of what was owed was passed on: none of it
 step_passes : (old found new : Stream) (offset whence : ℤ) (target : ℕ) → MaySeek old → Finds old offset whence target found → StepsTo found target true new → PassesBytes old (Seek offset whence) (Place target) new
@@ -237,11 +238,7 @@ stepped old found new offset whence target may finds steps =
     let kept : KeepsOn old new = keeps_then old found new finds.out.stands.kept (step_keeps found new target steps) in
     let short : new.short ≡ false = kept.short ∙ may.whole in
     let writes : Writes old call (Place target) new = passing_writes old call (Place target) new asked.none (step_passes old found new offset whence target may finds steps) in
-    let told : WhereTold old.raw (BinaryStep (file_of old) call (Place target) new.short false (file_of new)) = λ tells.
-    let lies : (seek_target (file_of old) offset whence ≡ target) × (refusal (file_of old) call ≡ None) = finds.to.lies (tells_its_bytes old.raw tells) in
-    subst (λ (said : Bool). BinaryStep (file_of old) call (Place target) said false (file_of new)) (sym short)
-    (settled (subst (λ (refused : Option IoFault). SettledBy (file_of old) call refused (Place target) (file_of new)) (sym lies.1)
-    (sought_at (file_of old) (file_of new) (seek_target (file_of old) offset whence) target lies.0 (stepped_file old found new target finds.out steps tells)))) in
+    let told = sought_told old new offset whence target finds.to short (stepped_file old found new target finds.out steps) in
     let stays : StaysAmong old new = step_among old found new target finds.out steps in
     let owing : StaysHeld old new = record { owed = stays.owed; held = stays.held } in
     let seeks : WentTo old target new = record { among = λ _. stays; away = λ away. absurd (step_stays old found new target may finds.out steps away) } in
@@ -262,11 +259,7 @@ gone_file old mid new target live passes empty kept went tells =
 
 -- nothing is held where the stream stands then, or owed
 gone_bare : (mid new : Stream) (target : ℕ) → GoesTo mid target new → StandsBare new
-gone_bare mid new target goes = record {
-  none = ap (λ (owed : Owed). owed.bytes) goes.owed;
-  held = goes.held ∙ ap nothing_held (sym goes.place);
-  stands = goes.stands ∙ sym goes.place;
-}
+gone_bare mid new target goes = grind arith
 
 -- the stream stands where it was to go
 gone : (old mid new : Stream) (offset whence : ℤ) (target : ℕ) → MaySeek old → Goes old offset whence target → (IsAmong old target → ⊥) → Beside old (Seek offset whence) (Place target) new → SettleOutcome old (Ok tt) mid → GoesTo mid target new → Answers old (Seek offset whence) (Place target) new
@@ -281,11 +274,7 @@ gone old mid new offset whence target may to beyond beside settled_by goes =
     let bytes : WhereTold old.raw (new.raw.bytes ≡ mid.raw.bytes) = λ tells. goes.bytes (passes.kept.raw.tells_bytes ∙ tells_its_bytes old.raw tells) in
     let counted : IsTrue old.raw.counts_exactly → IsCounted old.buffer old.raw call (Place target) new.raw new.short = λ exact. record { faults = λ _. no_fault_then old.raw mid.raw new.raw passes.kept.raw settled_by.0.no_fault goes.counts.no_fault exact; waits = λ _ _. no_wait_then old.raw mid.raw new.raw passes.kept.raw settled_by.1 goes.counts.no_wait exact; once = λ waited. absurd (cc) } in
     let writes : Writes old call (Place target) new = passing_writes old call (Place target) new asked.none (grind (arith, answers_still)) in
-    let told : WhereTold old.raw (BinaryStep (file_of old) call (Place target) new.short false (file_of new)) = λ tells.
-    let lies : (seek_target (file_of old) offset whence ≡ target) × (refusal (file_of old) call ≡ None) = to.lies (tells_its_bytes old.raw tells) in
-    subst (λ (said : Bool). BinaryStep (file_of old) call (Place target) said false (file_of new)) (sym short)
-    (settled (subst (λ (refused : Option IoFault). SettledBy (file_of old) call refused (Place target) (file_of new)) (sym lies.1)
-    (sought_at (file_of old) (file_of new) (seek_target (file_of old) offset whence) target lies.0 (gone_file old mid new target may.live passes settled_by.2 kept goes tells)))) in
+    let told = sought_told old new offset whence target to short (gone_file old mid new target may.live passes settled_by.2 kept goes) in
     let seeks : WentTo old target new = record { among = λ among. absurd (beyond among); away = λ _. gone_bare mid new target goes } in
     shows_answers old call (Place target) new asked.none (search (rules, stays_open))
 

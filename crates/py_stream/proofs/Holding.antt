@@ -102,24 +102,7 @@ reading_lays before call after reads lays = grind arith
 
 -- what a reading does with what is owed, of which it passed on a front
 passing_reads : (before mid : Stream) (call : FileCall) (reply : FileReply) (short : Bool) → is_reading call ≡ true → before.life ≡ life.Live → PassesSome before mid → BlocksFull call reply (record mid { short = short }) → Writes before call reply (record mid { short = short })
-passing_reads before mid call reply short reads live passes full =
-    let is : IsReadingCall call = reading_call call reads in
-    let after : Stream = record mid { short = short } in
-    record {
-      owes = λ writing. absurd (cc (is.writing));
-      takes = λ writing. absurd (cc (is.writing));
-      room = λ writing. absurd (cc (is.writing));
-      leaves = λ _. passing_front before mid mid.life short passes;
-      stands = λ behind unread. absurd (cc);
-      lays = λ tells. reading_lays before call mid.raw.bytes reads (passes.lays tells);
-      passes = is.passes before reply after;
-      full = full;
-      starves = λ wanting writing. absurd (cc (is.writing));
-      straight = is.straight before reply after;
-      settles = passes.at;
-      unclosed = λ _. passes.kept.stays;
-      rests = λ dead. absurd (dead live);
-    }
+passing_reads before mid call reply short reads live passes full = grind (arith, reading_call, reading_lays, passing_front)
 
 -- a live stream with a buffer that writes comes to a reading of some bytes, which the bytes held don't answer
 pub record HasToPass (before : Stream) (call : FileCall) : Type 0 where
@@ -310,37 +293,10 @@ held_reading before call reply place owed reads held moved is =
     let idle : AsksNothing before reply after = record { raw = refl; fault = is.said } in
     let told : WhereTold before.raw (BinaryStep (file_of before) call reply before.short (says_fault reply) (file_of after)) = λ tells. settled (subst (λ (refused : Option IoFault). SettledBy (file_of before) call refused reply (file_of after)) (sym (accepted before call reads (reading_suits before call reads held) held.live))
     (subst (λ (file : FlatFile). Accepted (file_of before) call reply file) (sym (moved_file before place owed moved)) (is.told tells))) in
-    shows_reading before after call reply reads held (record {
-      keeps = record { buffer = refl; can = refl; raw = keeps_same before.raw; bare = λ none. absurd (let some = held.buffered in cc) };
-      shut = λ closed. closed;
-      causes = record { waits = λ waited. absurd (cc (whole)); faults = λ faulted. absurd (cc (is.said)) };
-      counted = λ exact. record { faults = λ _. refl; waits = λ _ _. refl; once = λ waited. absurd (cc (whole)) };
-      shorts = subst (IsShort call reply) (sym whole) is.shorts;
-      life_is = is.life_is;
-      place = is.moves;
-      far = moved.sound.far;
-      within = is.within;
-      wants = λ wanting. absurd (fed wanting);
-      goes_on = λ ahead. record { none = moved.bytes ∙ ahead.none; stands = ahead.stands };
-      goes_past = λ _ past. absurd (stays_within before place owed (moved.sound.near held.live).before_end past);
-      starves = λ wanting. absurd (fed wanting);
-      first = λ wanting. absurd (fed wanting);
-      nothing = λ _. idle;
-      single = λ _ _ tells. omega arith;
-      once = λ _ tells. inl refl;
-      passes_first = λ _ single some _ first. moved.bytes ∙ is.passed single some first;
-      brings = λ _. came_still before after 1 refl refl;
-      in_hand = λ _. idle;
-      owing = λ _. record { owed = moved.bytes; held = refl };
-      needs = λ _ _. record { enough = λ _ _ _. idle; whole = λ _. each_still before after 0 0 refl refl; needed = λ _. inl refl; last = each_still before after 1 1 refl refl };
-      spares = λ _ bare. record { bytes = λ tells. refl; written = λ tells. refl; owed = owes_none before place owed moved bare; still = λ _. refl };
-      writes = λ _. held_writes before call reply place owed reads (reading_fills call reply after before.buffer before.can.writable reads is.said is.answers) moved;
-      answer = is.answers;
-      told = told;
-      reach = is.reach;
-      near = moved.sound.near;
-      hides = λ waited. absurd (cc (whole));
-    })
+    let goes_past : GoesPast before after → ⊥ = λ past. stays_within before place owed (moved.sound.near held.live).before_end past in
+    let writes : Writes before call reply after = held_writes before call reply place owed reads (reading_fills call reply after before.buffer before.can.writable reads is.said is.answers) moved in
+    let passes_first : PassesFirst before call reply after = λ _ single some _ first. moved.bytes ∙ is.passed single some first in
+    shows_reading before after call reply reads held (grind (arith, keeps_same, came_still, each_still, owes_none))
 
 -- a stream that owes nothing is moved with the place of that
 owed_moves : (raw : List ℕ) (target : ℕ) (owed : Owed) → lay raw (owed_at target owed).place (owed_at target owed).bytes ≡ lay raw owed.place owed.bytes
@@ -480,38 +436,6 @@ pub reading_lacks : (before : Stream) (call : FileCall) → is_reading call ≡ 
 reading_lacks before call reads room held =
     let reply : FileReply = Refused fault.NoMemory in
     let is : IsReadingCall call = reading_call call reads in
-    let whole : before.short ≡ false = held.whole in
-    let idle : AsksNothing before reply before = record { raw = refl; fault = refl } in
     let moved : Moved before before.place before.owed = held_still before held in
-    let told : WhereTold before.raw (BinaryStep (file_of before) call reply before.short false (file_of before)) = λ tells. subst (λ (cut : Bool). BinaryStep (file_of before) call reply cut false (file_of before)) (sym whole) (out_of_memory refl (work_reaches (file_of before) call (works before call reads (reading_suits before call reads held) held.live), starved_same (file_of before) call reads)) in
-    shows_reading before before call reply reads held (record {
-      keeps = record { buffer = refl; can = refl; raw = keeps_same before.raw; bare = λ none. absurd (let some = held.buffered in cc) };
-      shut = λ closed. closed;
-      causes = record { waits = λ waited. absurd (cc (whole)); faults = λ faulted. absurd (cc) };
-      counted = λ exact. record { faults = λ _. refl; waits = λ _ _. refl; once = λ waited. absurd (cc (whole)) };
-      shorts = subst (IsShort call reply) (sym whole) is.want_short;
-      life_is = starves_alive before.buffer call before.life;
-      place = starves_there before.buffer call before.life before.place;
-      far = held.sound.far;
-      within = gives_nothing (size_of before) call fault.NoMemory;
-      wants = λ wanting has. absurd (cc (room));
-      goes_on = λ ahead. ahead;
-      goes_past = λ given. absurd (cc);
-      starves = λ _ _. record { ahead = λ _. starves_same before held; left = λ failed. absurd (let live = held.live in cc); unread = λ _ tells. refl };
-      first = λ _ _ _. (starves_same before held).unmoved held.live;
-      nothing = λ _. idle;
-      single = λ _ _ tells. omega arith;
-      once = λ _ tells. inl refl;
-      passes_first = λ _ _ _ given. absurd (cc);
-      brings = λ _. came_still before before 1 refl refl;
-      in_hand = λ _. idle;
-      owing = λ _. record { owed = refl; held = refl };
-      needs = λ _ _. record { enough = λ _ _ _. idle; whole = λ _. each_still before before 0 0 refl refl; needed = λ _. inl refl; last = each_still before before 1 1 refl refl };
-      spares = λ _ bare. record { bytes = λ tells. refl; written = λ tells. refl; owed = bare; still = λ _. refl };
-      writes = λ _. held_writes before call reply before.place before.owed reads (nothing_blocked before call fault.NoMemory refl) moved;
-      answer = is.want_answers before.buffer before.can.writable;
-      told = told;
-      reach = λ tells. omega arith;
-      near = held.sound.near;
-      hides = λ waited. absurd (cc (whole));
-    })
+    let told : WhereTold before.raw (BinaryStep (file_of before) call reply before.short false (file_of before)) = λ tells. subst (λ (cut : Bool). BinaryStep (file_of before) call reply cut false (file_of before)) (sym held.whole) (out_of_memory refl (work_reaches (file_of before) call (works before call reads (reading_suits before call reads held) held.live), starved_same (file_of before) call reads)) in
+    shows_reading before before call reply reads held (grind (arith, keeps_same, starves_alive, starves_there, gives_nothing, starves_same, came_still, each_still, held_writes, nothing_blocked))

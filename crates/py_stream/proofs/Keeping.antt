@@ -1,64 +1,48 @@
 -- A call that gives bytes to a stream that may owe bytes anywhere among those that its buffer holds: the buffer takes them.
-use Rattle.std.proofs.Common.{◌≡◌, ◌≢◌, ℕ, ◌+◌, ◌-◌, ◌<◌, ◌≤◌, ◌⊎◌, inl, inr, ⊎_elim, Bool, true, false, IsTrue, List, [], ◌++◌, length, take, drop, Some, None, Err, refl, sym, ap, ◌∙◌, subst, arith}
+use Rattle.std.proofs.Common.{◌≡◌, ◌≢◌, ℕ, ◌+◌, ◌-◌, ◌<◌, ◌≤◌, ◌⊎◌, inl, inr, ⊎_elim, Bool, true, false, IsTrue, List, [], ◌++◌, length, take, drop, Some, None, Err, refl, sym, ap, ◌∙◌, subst, arith, rules}
 use Rattle.std.proofs.lemmas.List.{take_all, drop-append-le, length-drop, length-take-le}
 use Rattle.py_flat.specs.declared.fault.IoFault.{IoFault}
 use Rattle.py_flat.specs.declared.fault.IoFault.TheVariants as fault
 use Rattle.py_flat.specs.declared.life.Life.TheVariants as life
 use Rattle.py_flat.specs.Bytes.{lay}
 use Rattle.py_flat.specs.Causes.{Rose}
-use Rattle.py_flat.specs.Limits.{greatest_place}
 use Rattle.py_flat.specs.Owed.{Owed}
 use Rattle.py_flat.specs.Calls.{FileCall, FileReply, Refused}
-use Rattle.py_flat.specs.Refusals.{refusal}
 use Rattle.py_flat.specs.ExactStep.{is_closed, after_write}
 use Rattle.py_flat.specs.AllowedStep.{raw_faulted, out_of_memory}
-use Rattle.py_flat.specs.BinaryStep.{BinaryStep, payload, does_work}
+use Rattle.py_flat.specs.BinaryStep.{payload}
 use Rattle.py_raw.specs.RawStream.{Raw, WhereTold, AnswersFor}
 use Rattle.py_raw.proofs.Telling.{tells_still}
 use Rattle.py_stream.specs.Stream.{Stream, size_of, file_of}
-use Rattle.py_stream.specs.Kinds.{is_writing, outlasts, makes_one, says_fault, says_no_memory}
-use Rattle.py_stream.specs.Writing.{OwesUpTo, first_place, CoversBoth, OwesAll, OwesTheRest, LeavesUpTo, OwesBoth, Takes, OwesOld, OwesNoneOfIts, LaysFront, IsFull, BlocksFull, HasRoom, TakesAlone, Writes}
-use Rattle.py_stream.specs.Answers.{Answers, HasCauses, IsCounted, IsShort, LifeMoves, PlaceMoves, IsReplyTo, refused_by}
+use Rattle.py_stream.specs.Kinds.{outlasts, makes_one, says_fault, says_no_memory, is_writing}
+use Rattle.py_stream.specs.Writing.{OwesUpTo, first_place, CoversBoth, OwesAll, OwesTheRest, LeavesUpTo, OwesBoth, Takes, OwesOld, OwesNoneOfIts, LaysFront, IsFull, BlocksFull, HasRoom, TakesAlone, Writes, LaysInOrder, TookOwn}
+use Rattle.py_stream.specs.Answers.{Answers, LifeMoves, PlaceMoves, refused_by}
 use Rattle.py_stream.specs.Keeping.{IsSound, KeepsOn}
 use Rattle.py_stream.specs.Held.{TakesOver, KeepsBoth, OwesHeld}
 use Rattle.py_stream.specs.Settling.{PassesSome, LivesOn, SettleOutcome}
-use Rattle.py_stream.proofs.Completing.{completes}
 use Rattle.py_stream.proofs.Refused.{nothing_blocked}
 use Rattle.py_stream.proofs.Refusing.{refused_alone}
-use Rattle.py_stream.proofs.Stopping.{GivesNone, gives_none, work_reaches, says_short, fails_there, fault_answers, starves_alive, starves_there, starve_answers}
+use Rattle.py_stream.proofs.Stopping.{work_reaches, says_short, fails_there, fault_answers, starves_alive, starves_there, starve_answers}
 use Rattle.py_stream.proofs.Taking.{keeps_then}
 use Rattle.py_stream.proofs.Flat.{flat_of, file_now, failed_file}
 use Rattle.py_stream.proofs.PassingOn.{passing_keeps_bytes, passing_file}
-use Rattle.py_stream.proofs.Giving.{IsGiving, is_giving, IsPart, taken_reply, says_all, waited_reply, is_taken, is_blocked, is_faulted, no_tell}
+use Rattle.py_stream.proofs.Giving.{IsGiving, is_giving, MayGive, Left, answers_left, accepted, works, IsPart, taken_reply, says_all, waited_reply, is_taken, is_blocked, is_faulted, no_tell}
 use Rattle.py_stream.proofs.Given.{part_steps, said_short, GoesOn, goes_on_all}
-use Rattle.py_stream.proofs.Coming.{near_seen}
 use Rattle.py_stream.proofs.Owing.{first_left}
 use Rattle.py_stream.proofs.LeftOwed.{covers_rest, left_up_to, left_behind, left_forth, left_old, left_both, left_takes, left_lays}
 
 -- A call of a stream with a buffer.
 
--- a call that gives bytes, of a live stream with a buffer that may place them, wherever what it owes lies
+-- a call that gives bytes, of a live stream with a buffer that may place them
 pub record MayKeep (before : Stream) (call : FileCall) : Type 0 where
-  pub writing : is_writing call ≡ true
-  pub sound : IsSound before
-  pub live : before.life ≡ life.Live
+  pub gives : MayGive before call
   pub whole : before.short ≡ false
-  pub can : before.can.writable ≡ true
   pub size : ℕ
   pub buffered : before.buffer ≡ Some size
-  pub within : before.place + length (payload call) ≤ greatest_place
-
--- a stream that may place a call's bytes doesn't refuse the call
-unrefused : (before : Stream) (call : FileCall) → MayKeep before call → refusal (file_of before) call ≡ None
-unrefused before call may = grind arith
-
--- the raw may be called
-reaches : (before : Stream) (call : FileCall) → MayKeep before call → IsTrue (does_work (file_of before) call)
-reaches before call may = grind arith
 
 -- a call of a stream with a buffer goes on until all bytes are taken
 goes_over : (before : Stream) (call : FileCall) → MayKeep before call → GoesOn before.buffer call
-goes_over before call may = goes_on_all before.buffer call may.writing (grind (arith, may.writing, may.buffered))
+goes_over before call may = goes_on_all before.buffer call may.gives.writing (grind (arith, may.gives.writing, may.buffered))
 
 -- it may go on over a wait, and make several transfers
 outlasting : (before : Stream) (call : FileCall) → MayKeep before call → outlasts before.buffer call ≡ true
@@ -67,68 +51,9 @@ outlasting before call may = grind arith
 not_one : (before : Stream) (call : FileCall) → MayKeep before call → makes_one before.buffer call ≡ false
 not_one before call may = grind arith
 
--- what a call that gives bytes left, but for whether a wait cut it short
-record Left (before : Stream) (call : FileCall) (reply : FileReply) (short : Bool) (new : Stream) : Type 0 where
-  pub kept : KeepsOn before new
-  pub is_open : is_closed new.life ≡ false
-  pub causes : HasCauses before.raw reply new.raw short
-  pub counted : IsTrue before.raw.counts_exactly → IsCounted before.buffer before.raw call reply new.raw short
-  pub shorts : IsShort call reply short
-  pub life_is : LifeMoves before.buffer call reply before.life new.life
-  pub place : PlaceMoves before.buffer call reply new.life before.place new.place
-  pub wants : IsTrue (says_no_memory reply) → IsTrue before.raw.takes_memory
-  pub writes : Writes before call reply (record new { short = short })
-  pub answers : IsReplyTo before.buffer true call reply
-  pub told : WhereTold before.raw (BinaryStep (file_of before) call reply short (says_fault reply) (file_of new))
-
--- what a call that gives bytes left answers it
-answers_left : (before new : Stream) (call : FileCall) (reply : FileReply) (short : Bool) → MayKeep before call → Left before call reply short new → Answers before call reply (record new { short = short })
-answers_left before new call reply short may left =
-    let giving : IsGiving call = is_giving call may.writing in
-    let gives : GivesNone call = gives_none call giving.reads in
-    let accepts : refused_by before call ≡ None = refused_alone before call (giving.asks (file_of before)) ∙ unrefused before call may in
-    let answers : IsReplyTo before.buffer before.can.writable call reply = subst (λ (writes : Bool). IsReplyTo before.buffer writes call reply) (sym may.can) left.answers in
-    record {
-      keeps = record { buffer = left.kept.buffer; can = left.kept.can; raw = left.kept.raw; bare = λ bare _. left.kept.sound.bare (left.kept.buffer ∙ bare) };
-      refused = λ why refuses. absurd (let wrong : None ≡ Some why = sym accepts ∙ refuses in cc);
-      again = λ closes. absurd (cc (giving.closes before));
-      parted = λ _. left.kept.stays;
-      shut = λ _ none closed. left.kept.stays ∙ closed ∙ ap is_closed may.live ∙ sym left.is_open;
-      causes = left.causes;
-      counted = left.counted;
-      shorts = left.shorts;
-      moves = record { life_is = left.life_is; place = left.place; far = left.kept.sound.far; within = gives.within (size_of before) reply };
-      ends = giving.ends before reply (record new { short = short });
-      seeks = giving.seeks before reply (record new { short = short });
-      wants = λ wanting room. left.wants wanting;
-      goes_on = λ reads. absurd (cc (giving.reads));
-      goes_past = λ reads. absurd (cc (giving.reads));
-      starves = λ wanting reads. absurd (cc (gives.going_on));
-      first = λ wanting first. absurd (cc (gives.first));
-      nothing = λ asks. absurd (cc (giving.some before.buffer));
-      idle = λ keeps. absurd (cc (giving.calls before.buffer before.can.writable));
-      single = λ single. absurd (cc (not_one before call may));
-      once = λ single. absurd (cc (not_one before call may));
-      passes_first = λ _ single. absurd (cc (gives.single));
-      in_hand = λ has. absurd (giving.unheld before has.of);
-      owing = λ has. absurd (giving.unheld before has.of);
-      brings = λ reads. absurd (cc (giving.reads));
-      unread = λ _. left.kept.reads;
-      needs = λ reads. absurd (cc (gives.several before.buffer));
-      spares = λ reads. absurd (cc (may.can));
-      writes = λ can. left.writes;
-      answer = λ accepted. answers;
-      at_once = λ failed. absurd (cc (may.live));
-      complete = λ accepted calm sound. completes before.raw new.raw before.buffer before.can.writable call reply short left.causes left.shorts answers calm sound;
-      told = left.told;
-      reach = λ reads. absurd (cc (giving.reads));
-      near = λ lives. near_seen new short (left.kept.sound.near lives);
-      hides = λ shortened reads. absurd (cc (giving.reads));
-    }
-
 -- where no wait cut the answer short, the stream is as its steps left it
-answers_unshort : (before new : Stream) (call : FileCall) (reply : FileReply) → MayKeep before call → Left before call reply false new → Answers before call reply new
-answers_unshort before new call reply may left = subst (λ (after : Stream). Answers before call reply after) (said_short new false (left.kept.short ∙ may.whole)) (answers_left before new call reply false may left)
+answers_unshort : (before new : Stream) (call : FileCall) (reply : FileReply) → MayKeep before call → Left before call reply false new → Writes before call reply (record new { short = false }) → Answers before call reply new
+answers_unshort before new call reply may left writes = subst (λ (after : Stream). Answers before call reply after) (said_short new false (left.kept.short ∙ may.whole)) (answers_left before new call reply false may.gives left writes)
 
 -- What the buffer takes, after a passing on of some.
 
@@ -257,13 +182,13 @@ module _ (before mid after : Stream) (call : FileCall) (reply : FileReply) (coun
   kept_writes : Writes before call reply (record after { short = short })
   kept_writes =
       let left : Stream = record after { short = short } in
-      let giving : IsGiving call = is_giving call may.writing in
+      let giving : IsGiving call = is_giving call may.gives.writing in
       let kept : KeepsOn before after = kept_all before mid after (payload call) count fits goes over in
       record {
         owes = λ _. both;
         takes = λ _. kept_takes before mid after (payload call) count fits goes over short;
         room = λ _. room;
-        leaves = λ spares. absurd (cc (may.writing));
+        leaves = λ spares. absurd (cc (may.gives.writing));
         stands = λ behind reads some. (over.stands (left_behind before mid goes.passes behind)).stands;
         lays = λ tells. giving.lays before after.raw.bytes (kept_lays before mid after (payload call) count fits goes over tells);
         passes = giving.passes before reply left;
@@ -272,7 +197,7 @@ module _ (before mid after : Stream) (call : FileCall) (reply : FileReply) (coun
         straight = is.straight left;
         settles = λ none. over.at (goes.passes.at none);
         unclosed = λ some. kept.stays;
-        rests = λ dead. absurd (dead may.live);
+        rests = λ dead. absurd (dead may.gives.live);
       }
 
   -- a call of which the buffer took a front of the bytes is answered by that
@@ -280,10 +205,10 @@ module _ (before mid after : Stream) (call : FileCall) (reply : FileReply) (coun
   keeps_answers =
       let own : List ℕ = payload call in
       let kept : KeepsOn before after = kept_all before mid after own count fits goes over in
-      let lives : after.life ≡ before.life = over.life_is ∙ goes.live ∙ sym may.live in
-      answers_left before after call reply short may (record {
+      let lives : after.life ≡ before.life = over.life_is ∙ goes.live ∙ sym may.gives.live in
+      answers_left before after call reply short may.gives (record {
         kept = kept;
-        is_open = ap is_closed (lives ∙ may.live);
+        is_open = ap is_closed (lives ∙ may.gives.live);
         causes = record { waits = λ cut. subst (λ (raw : Raw). Rose before.raw.waits raw.waits) (sym over.raw) (waited cut); faults = λ faulted. absurd (cc (is.no_fault)) };
         counted = λ exact. record {
           faults = λ _. ap (λ (raw : Raw). raw.faults) over.raw ∙ goes.no_fault exact;
@@ -294,10 +219,10 @@ module _ (before mid after : Stream) (call : FileCall) (reply : FileReply) (coun
         life_is = is.life_is before.life after.life lives;
         place = is.place after.life before.place after.place (kept_place before mid after own count fits goes over);
         wants = λ wanting. absurd (cc (is.no_want));
-        writes = kept_writes;
+        one = λ one. absurd (cc (not_one before call may));
         answers = is.answers;
-        told = λ tells. part_steps (file_of before) (file_of after) call reply short (says_fault reply) (reaches before call may) (unrefused before call may) (is.steps (file_of after) (kept_file before mid after own count fits goes over may.live tells));
-      })
+        told = λ tells. part_steps (file_of before) (file_of after) call reply short (says_fault reply) (works before call may.gives) (accepted before call may.gives) (is.steps (file_of after) (kept_file before mid after own count fits goes over may.gives.live tells));
+      }) kept_writes
 
 -- nothing is passed on of a stream that lives
 lives_itself : (stream : Stream) → IsSound stream → stream.life ≡ life.Live → LivesOn stream stream
@@ -310,7 +235,7 @@ all_answers before mid after call may goes reach keeps room =
     let all : ℕ = length own in
     let same : own ≡ take all own = sym (take_all all own (omega arith)) in
     let fits : all ≤ length (payload call) = omega arith in
-    let is = is_taken before all before.buffer call may.writing fits (goes_over before call may).all in
+    let is = is_taken before all before.buffer call may.gives.writing fits (goes_over before call may).all in
     subst (λ (left : Stream). Answers before call (taken_reply call all) left) (said_short after false (keeps.over.kept.short ∙ goes.passes.kept.short ∙ may.whole))
     (keeps_answers before mid after call (taken_reply call all) all false may fits is goes (subst (λ (bytes : List ℕ). TakesOver mid bytes after) same keeps.over)
     (kept_both before mid after own all fits goes (subst (λ (bytes : List ℕ). TakesOver mid bytes after) same keeps.over) (subst (λ (bytes : List ℕ). OwesAll mid.owed mid.place bytes after.owed) same keeps.owes) false (subst (ReachesRest before mid) same reach))
@@ -319,8 +244,8 @@ all_answers before mid after call may goes reach keeps room =
 -- bytes that fit the buffer with no call of the raw are all taken
 pub fits_answers : (before after : Stream) (call : FileCall) → MayKeep before call → KeepsBoth before (payload call) after → Answers before call (taken_reply call (length (payload call))) after
 fits_answers before after call may keeps =
-    all_answers before before after call may (lives_itself before may.sound may.live) (inl refl) keeps
-    (λ _. record { says = says_all call may.writing; whole = refl; raw = keeps.over.raw; raw_place = keeps.over.raw_place; owes = keeps.owes; held = keeps.held })
+    all_answers before before after call may (lives_itself before may.gives.sound may.gives.live) (inl refl) keeps
+    (λ _. record { says = says_all call may.gives.writing; whole = refl; raw = keeps.over.raw; raw_place = keeps.over.raw_place; owes = keeps.owes; held = keeps.held })
 
 -- bytes that fit the buffer once the raw took some of what was owed, and then would have blocked, are all taken
 pub fits_after_wait : (before mid after : Stream) (call : FileCall) → MayKeep before call → (HasRoom before (payload call) → ⊥) → LivesOn before mid → 0 < length mid.owed.bytes → mid.owed.place ≤ before.place + length (payload call) → KeepsBoth mid (payload call) after → Answers before call (taken_reply call (length (payload call))) after
@@ -332,7 +257,7 @@ blocked_after_wait before mid after call taken may roomless goes waited less ove
     let fits : taken ≤ length (payload call) = omega (arith, less) in
     let on : GoesOn before.buffer call = goes_over before call may in
     subst (λ (reply : FileReply). Answers before call reply (record after { short = true })) (on.says taken)
-    (keeps_answers before mid after call (waited_reply before.buffer call taken) taken true may fits (is_blocked before taken before.buffer call may.writing (on.waits taken less)) goes over both (λ _. full) (λ _. waited) (λ has. absurd (roomless has)))
+    (keeps_answers before mid after call (waited_reply before.buffer call taken) taken true may fits (is_blocked before taken before.buffer call may.gives.writing (on.waits taken less)) goes over both (λ _. full) (λ _. waited) (λ has. absurd (roomless has)))
 
 -- it took the first of them
 pub fills_after_wait : (before mid after : Stream) (call : FileCall) (taken : ℕ) → MayKeep before call → (HasRoom before (payload call) → ⊥) → LivesOn before mid → Rose before.raw.waits mid.raw.waits → 0 < length mid.owed.bytes → mid.owed.place ≤ before.place + taken → taken < length (payload call) → KeepsBoth mid (take taken (payload call)) after → IsFull after.owed after.place (size_of after) → Answers before call (Refused (fault.WouldBlock taken)) (record after { short = true })
@@ -357,27 +282,20 @@ module _ (before new : Stream) (call : FileCall) (why : IoFault) (may : MayKeep 
   stopped_writes : (new.life ≡ life.Failed → IsTrue (says_no_memory (Refused why)) → ⊥) → BlocksFull call (Refused why) (record new { short = false }) → Writes before call (Refused why) (record new { short = false })
   stopped_writes alive unblocked =
       let left : Stream = record new { short = false } in
-      let giving : IsGiving call = is_giving call may.writing in
-      record {
-        owes = λ _. left_both before new passes (payload call) false;
-        takes = λ _. left_takes before new passes (payload call) false;
-        room = λ _ has. absurd (roomless has);
-        leaves = λ spares. absurd (cc (may.writing));
-        stands = λ behind reads some. passes.stands behind;
-        lays = λ tells. giving.lays before new.raw.bytes (left_lays before new passes (payload call) tells);
-        passes = giving.passes before (Refused why) left;
-        full = unblocked;
-        starves = λ wanting writes failed. absurd (alive failed wanting);
-        straight = owes_none before left call why (left_old before new passes false);
-        settles = passes.at;
-        unclosed = λ some. passes.kept.stays;
-        rests = λ dead. absurd (dead may.live);
-      }
+      let giving : IsGiving call = is_giving call may.gives.writing in
+      let owes : IsTrue (is_writing call) → OwesBoth before (payload call) left = λ _. left_both before new passes (payload call) false in
+      let takes : IsTrue (is_writing call) → OwesUpTo before.owed before.place → Takes before (payload call) left = λ _. left_takes before new passes (payload call) false in
+      let room : IsTrue (is_writing call) → HasRoom before (payload call) → TakesAlone before call (Refused why) left = λ _ has. absurd (roomless has) in
+      let lays : WhereTold before.raw (LaysInOrder before call new.raw.bytes) = λ tells. giving.lays before new.raw.bytes (left_lays before new passes (payload call) tells) in
+      let starves : IsTrue (says_no_memory (Refused why)) → IsTrue (is_writing call) → new.life ≡ life.Failed → TookOwn before left = λ wanting writes failed. absurd (alive failed wanting) in
+      let straight : OwesNoneOfIts before call (Refused why) left = owes_none before left call why (left_old before new passes false) in
+      let rests : before.life ≢ life.Live → new.raw ≡ before.raw = λ dead. absurd (dead may.gives.live) in
+      search (rules)
 
 -- the raw failed before anything was taken
 pub stops_failed : (before after : Stream) (call : FileCall) → MayKeep before call → (HasRoom before (payload call) → ⊥) → SettleOutcome before (Err fault.RawFault) after → Answers before call (Refused fault.RawFault) after
 stops_failed before after call may roomless fails =
-    let is = is_faulted before 0 before.buffer call may.writing in
+    let is = is_faulted before 0 before.buffer call may.gives.writing in
     answers_unshort before after call (Refused fault.RawFault) may (record {
       kept = fails.0.kept;
       is_open = ap is_closed fails.1;
@@ -387,21 +305,21 @@ stops_failed before after call may roomless fails =
       life_is = subst (LifeMoves before.buffer call (Refused fault.RawFault) before.life) (sym fails.1) (is.life_is before.life);
       place = subst (PlaceMoves before.buffer call (Refused fault.RawFault) after.life before.place) (sym fails.0.still) (fails_there before.buffer call after.life before.place);
       wants = λ wanting. absurd (cc);
-      writes = stopped_writes before after call fault.RawFault may roomless fails.0 (λ failed wanting. absurd (cc)) (nothing_blocked (record after { short = false }) call fault.RawFault refl);
-      answers = fault_answers before.buffer true call (no_tell call may.writing);
+      one = λ one. absurd (cc (not_one before call may));
+      answers = fault_answers before.buffer true call (no_tell call may.gives.writing);
       told = λ tells. raw_faulted refl refl (
-        work_reaches (file_of before) call (reaches before call may),
+        work_reaches (file_of before) call (works before call may.gives),
         is.faulted (file_of after) (0, omega arith, failed_file before after life.Failed (flat_of before) fails.0.kept fails.1 (passing_keeps_bytes before after fails.0 tells)),
       );
-    })
+    }) (stopped_writes before after call fault.RawFault may roomless fails.0 (λ failed wanting. absurd (cc)) (nothing_blocked (record after { short = false }) call fault.RawFault refl))
 
 -- memory ran out before anything was taken
 pub stops_starved : (before after : Stream) (call : FileCall) → MayKeep before call → (HasRoom before (payload call) → ⊥) → SettleOutcome before (Err fault.NoMemory) after → Answers before call (Refused fault.NoMemory) after
 stops_starved before after call may roomless lacks =
     let goes : LivesOn before after = lacks.1 in
     let passes : PassesSome before after = goes.passes in
-    let lives : after.life ≡ before.life = goes.live ∙ sym may.live in
-    let is = is_faulted before 0 before.buffer call may.writing in
+    let lives : after.life ≡ before.life = goes.live ∙ sym may.gives.live in
+    let is = is_faulted before 0 before.buffer call may.gives.writing in
     answers_unshort before after call (Refused fault.NoMemory) may (record {
       kept = passes.kept;
       is_open = ap is_closed goes.live;
@@ -411,11 +329,11 @@ stops_starved before after call may roomless lacks =
       life_is = subst (LifeMoves before.buffer call (Refused fault.NoMemory) before.life) (sym lives) (starves_alive before.buffer call before.life);
       place = subst (PlaceMoves before.buffer call (Refused fault.NoMemory) after.life before.place) (sym passes.still) (starves_there before.buffer call after.life before.place);
       wants = λ _. lacks.0;
-      writes = stopped_writes before after call fault.NoMemory may roomless passes (λ failed wanting. let wrong : life.Live ≡ life.Failed = sym goes.live ∙ failed in cc) (nothing_blocked (record after { short = false }) call fault.NoMemory refl);
-      answers = starve_answers before.buffer true call (no_tell call may.writing);
-      told = λ tells. out_of_memory refl (work_reaches (file_of before) call (reaches before call may), is.same (file_of after) (passing_file before after passes lives tells));
-    })
+      one = λ one. absurd (cc (not_one before call may));
+      answers = starve_answers before.buffer true call (no_tell call may.gives.writing);
+      told = λ tells. out_of_memory refl (work_reaches (file_of before) call (works before call may.gives), is.same (file_of after) (passing_file before after passes lives tells));
+    }) (stopped_writes before after call fault.NoMemory may roomless passes (λ failed wanting. let wrong : life.Live ≡ life.Failed = sym goes.live ∙ failed in cc) (nothing_blocked (record after { short = false }) call fault.NoMemory refl))
 
 -- such a call isn't refused before the raw is called
 pub accepts_kept : (before : Stream) (call : FileCall) → MayKeep before call → refused_by before call ≡ None
-accepts_kept before call may = refused_alone before call ((is_giving call may.writing).asks (file_of before)) ∙ unrefused before call may
+accepts_kept before call may = refused_alone before call ((is_giving call may.gives.writing).asks (file_of before)) ∙ accepted before call may.gives

@@ -9,7 +9,7 @@ use Rattle.py_raw.specs.RawStream.{WhereTold, AnswersFor}
 use Rattle.py_stream.specs.Stream.{Stream}
 use Rattle.py_stream.specs.Writing.{OwesUpTo, OwesBehind, HasAt, first_of_both, end_of_both, CoversBoth, OwesTheRest, OwesBoth, Takes, OwesOld, LaysFront}
 use Rattle.py_stream.specs.Settling.{PassesSome}
-use Rattle.py_stream.proofs.Owing.{has_none, has_past, first_alone}
+use Rattle.py_stream.proofs.Owing.{has_none, has_past, first_alone, last_owed}
 use Rattle.py_stream.proofs.PassingOn.{none_owed_at, passing_keeps_bytes}
 
 -- Parts of a list.
@@ -74,11 +74,6 @@ same_end (byte ∷ more) [] start passed new place is some = absurd (some refl)
 same_end (byte ∷ more) (next ∷ rest) start passed [] place is some = omega (arith, ap length is, length-drop passed (byte ∷ more))
 same_end (byte ∷ more) (next ∷ rest) start passed (first ∷ others) place is some = omega (arith, ap length is, length-drop passed (byte ∷ more))
 
--- what is owed ends where it did after a write of none
-end_kept : (owed : List ℕ) (start place : ℕ) → owed ≢ [] → start + length owed ≡ end_of_both owed start [] place
-end_kept [] start place some = absurd (some refl)
-end_kept (byte ∷ more) start place some = refl
-
 -- what was owed isn't nothing where some of it is left
 was_some : (was rest : List ℕ) (passed : ℕ) → rest ≡ drop passed was → rest ≢ [] → was ≢ []
 was_some was rest passed is some none = some (is ∙ ap (drop passed) none ∙ drop-nil passed)
@@ -127,7 +122,7 @@ module _ (was rest : Owed) (passed place : ℕ) (is : rest.bytes ≡ drop passed
   covers_left : CoversBoth was place [] rest
   covers_left = record {
     from = omega (arith, first_within was.bytes [] was.place place some_was, at);
-    to = end_kept rest.bytes rest.place place some ∙ last_is [];
+    to = sym (last_owed rest.bytes rest.place place some) ∙ last_is [];
     new_bytes = has_none rest.bytes rest.place place;
     old_bytes = rw (is, at) (left_front was.bytes was.place passed (place - was.place));
     behind = rw (is, at) (left_end was.bytes was.place passed (place + 0));
@@ -169,12 +164,7 @@ module _ (old new : Stream) (passes : PassesSome old new) where
 
   -- what is owed is left of what was owed, and the place didn't move
   pub left_old : (short : Bool) → OwesOld old (record new { short = short })
-  left_old short = record {
-    rest = record { passed = passes.passed; bytes = passes.owed; place = passes.place };
-    stands = λ behind none. passes.stands behind ∙ passes.at (none_owed_at old behind.ends) none;
-    moved = λ moved. absurd (moved passes.still);
-    came = λ moved. absurd (moved passes.still);
-  }
+  left_old short = grind (arith, none_owed_at)
 
   -- what is left of what was owed covers that, and nothing new
   left_covers : new.owed.bytes ≢ [] → CoversBoth old.owed old.place [] new.owed

@@ -76,7 +76,8 @@ old_at [] taken start place passed at new up_to is ends some = has_none new at s
 old_at (byte ∷ more) taken start place passed at new (inl none) is ends some = absurd (cc)
 old_at (byte ∷ more) taken start place passed at new (inr whole) is ends some = has_old (byte ∷ more) taken start place passed at new (inr whole) is ends some whole
 
-ends_at : (owed : Owed) (place : ℕ) → owed.bytes ≢ [] → OwesUpTo owed place → owed.place + length owed.bytes ≡ place
+-- where what is owed ends at a place, and is some, it begins so many bytes before
+pub ends_at : (owed : Owed) (place : ℕ) → owed.bytes ≢ [] → OwesUpTo owed place → owed.place + length owed.bytes ≡ place
 ends_at owed place some (inl none) = absurd (some none)
 ends_at owed place some (inr ends) = ends
 
@@ -173,7 +174,8 @@ pub first_alone : (bytes : List ℕ) (start place : ℕ) → bytes ≢ [] → fi
 first_alone [] start place some = absurd (some refl)
 first_alone (byte ∷ more) start place some = refl
 
-last_owed : (bytes : List ℕ) (start place : ℕ) → bytes ≢ [] → end_of_both bytes start [] place ≡ start + length bytes
+-- what is owed ends where it did after a write of none
+pub last_owed : (bytes : List ℕ) (start place : ℕ) → bytes ≢ [] → end_of_both bytes start [] place ≡ start + length bytes
 last_owed [] start place some = absurd (some refl)
 last_owed (byte ∷ more) start place some = refl
 

@@ -1,8 +1,7 @@
 -- A call that gives or takes bytes, before which all that was owed was passed on: its answer is one of the stream as it was before.
-use Rattle.std.proofs.Common.{◌≡◌, ◌≢◌, ℕ, ◌+◌, ◌-◌, ◌≤◌, ◌⊎◌, inl, inr, max, Bool, true, false, ◌||◌, IsTrue, List, [], ◌++◌, length, take, drop, Option, Some, None, IsSome, Ok, sym, ap, ◌∙◌, subst, arith, length-drop, rules}
+use Rattle.std.proofs.Common.{◌≡◌, ◌≢◌, ℕ, ◌+◌, ◌-◌, ◌≤◌, ◌⊎◌, inl, inr, max, Bool, true, false, ◌||◌, IsTrue, List, [], ◌++◌, length, take, drop, Option, None, IsSome, Ok, sym, ap, ◌∙◌, subst, arith, length-drop, rules}
 use Rattle.std.proofs.Math.Seq.{take-nil, drop-nil, drop-append-add}
 use Rattle.std.proofs.lemmas.List.{take_all, drop_all, length-take-le}
-use Rattle.py_flat.specs.declared.fault.IoFault.{IoFault}
 use Rattle.py_flat.specs.declared.life.Life.TheVariants as life
 use Rattle.py_flat.specs.Bytes.{lay}
 use Rattle.py_flat.specs.Calls.{FileCall, FileReply}
@@ -12,22 +11,24 @@ use Rattle.py_flat.specs.BinaryStep.{BinaryStep, payload}
 use Rattle.py_flat.specs.Causes.{Rose}
 use Rattle.py_raw.specs.declared.reads.Reads.{Reads}
 use Rattle.py_raw.specs.Reads.{after_read}
-use Rattle.py_raw.specs.RawStream.{Keeps, KeepsReads, WhereTold, WhereTransfers, AnswersFor}
+use Rattle.py_raw.specs.RawStream.{Keeps, StaysOpen, KeepsReads, WhereTold, WhereTransfers, AnswersFor}
 use Rattle.py_raw.proofs.Telling.{tells_still}
 use Rattle.py_raw.proofs.ReadingOn.{Keeps-then}
 use Rattle.py_stream.specs.Stream.{Stream, file_of, nothing_owed}
-use Rattle.py_stream.specs.Kinds.{is_reading, is_writing, reads_on, takes_space_first, makes_one, asks_none, by_several, calls_none, says_fault, says_no_memory, says_given}
-use Rattle.py_stream.specs.Writing.{HasRoom, OwesUpTo, OwesBehind, LaysTaken, Takes, PassesFront, OwesBoth, LaysFront, LaysInOrder, OwesOld, OwesNoneOfIts, TookOwn, Writes}
+use Rattle.py_stream.specs.Kinds.{is_reading, is_writing, reads_on, takes_space_first, makes_one, asks_none, by_several, calls_none, has_room, says_fault, says_no_memory, says_given}
+use Rattle.py_stream.specs.Writing.{HasRoom, OwesBehind, LaysTaken, Takes, PassesFront, OwesBoth, LaysFront, LaysInOrder, OwesOld, OwesNoneOfIts, TookOwn, Writes, NoneAtPlace, TakesAlone}
 use Rattle.py_stream.specs.Keeping.{KeepsOn}
-use Rattle.py_stream.specs.Answers.{Answers, HasCauses, IsAhead, GoesPast, InHand, AsksNoMore, AtMostOne, ReadsOnce, PassesFirst, CameByReads, StarvesReading, StarvesFirst, SeeksByEnd, SeekStands, refused_by, closes_again, parts_at_close}
+use Rattle.py_stream.specs.Answers.{Answers, KeepsStream, ClosedWith, WantsMemory, IsCounted, IsReplyTo, HasCauses, IsAhead, GoesPast, InHand, AsksNoMore, AtMostOne, ReadsOnce, PassesFirst, CameByReads, StarvesReading, StarvesFirst, SeeksByEnd, SeekStands, refused_by, closes_again, parts_at_close}
 use Rattle.py_stream.specs.Settling.{PassesSome, LivesOn, SettleOutcome}
 use Rattle.py_stream.proofs.Taking.{waited_then, faulted_then, answers_then, answers_still}
 use Rattle.py_stream.proofs.Flat.{flat_of}
 use Rattle.py_stream.proofs.Stopping.{gives_none}
 use Rattle.py_stream.proofs.Giving.{IsGiving, is_giving}
 use Rattle.py_stream.proofs.Completing.{completes}
+use Rattle.py_stream.proofs.Showing.{not_refused}
 use Rattle.py_stream.proofs.ReadingCalls.{IsReadingCall, reading_call}
 use Rattle.py_stream.proofs.PassingOn.{passed_all}
+use Rattle.py_stream.proofs.Owing.{ends_at}
 
 -- The situation.
 
@@ -126,10 +127,6 @@ pub record AfterSettling (before : Stream) (call : FileCall) (reply : FileReply)
   pub needs : IsTrue (by_several before.buffer call) → IsAhead before → AsksNoMore before call reply after
   pub writes : Writes before call reply after
 
--- a call that isn't refused has no refusal
-not_refused : (before : Stream) (call : FileCall) (why : IoFault) → refused_by before call ≡ None → refused_by before call ≡ Some why → ⊥
-not_refused before call why none some = let wrong : None ≡ Some why = sym none ∙ some in cc
-
 -- what an answer has in common with that of the stream in between
 then_answers : (before mid after : Stream) (call : FileCall) (reply : FileReply) → (is_reading call || is_writing call) ≡ true → SettledFor before call mid → Answers (settled_as before mid) call reply after → AfterSettling before call reply after → Answers before call reply after
 then_answers before mid after call reply moves settled answers own =
@@ -137,45 +134,16 @@ then_answers before mid after call reply moves settled answers own =
     let goes : LivesOn before mid = settled.settled_by.0 in
     let passes : PassesSome before mid = goes.passes in
     let kept : Keeps before.raw mid.raw = passes.kept.raw in
-    let accepted : refused_by (settled_as before mid) call ≡ None = is.accepts before mid settled.accepted in
     let causes : HasCauses before.raw reply after.raw after.short = record { waits = λ short. waited_then before.raw mid.raw after.raw kept (answers.causes.waits short); faults = λ says. faulted_then before.raw mid.raw after.raw kept (answers.causes.faults says) } in
-    record {
-      keeps = record { buffer = answers.keeps.buffer; can = answers.keeps.can; raw = Keeps-then before.raw mid.raw after.raw kept answers.keeps.raw; bare = λ bare _. answers.keeps.bare bare (passes.kept.sound.bare (passes.kept.buffer ∙ bare) ∙ ap nothing_owed passes.still) };
-      refused = λ why refuses. absurd (not_refused before call why settled.accepted refuses);
-      again = λ closes. absurd (cc (is.closes before));
-      shut = λ _ none closed. answers.shut (is.parts (settled_as before mid) reply after) none (passes.kept.stays ∙ closed);
-      parted = λ parts. absurd (cc (parts, is.parts before reply after));
-      causes = causes;
-      counted = λ exact. let counts = answers.counted (kept.counts_exactly ∙ exact) in record { faults = λ none. counts.faults none ∙ goes.no_fault exact; waits = λ whole ends. counts.waits whole ends ∙ settled.settled_by.1 exact; once = λ short ends. cc (counts.once short ends, settled.settled_by.1 exact) };
-      shorts = answers.shorts;
-      moves = record { life_is = answers.moves.life_is; place = answers.moves.place; far = answers.moves.far; within = answers.moves.within };
-      ends = is.ends before reply after;
-      seeks = is.seeks before reply after;
-      wants = λ wanting room. sym kept.takes_memory ∙ answers.wants wanting room;
-      goes_on = own.goes_on;
-      goes_past = own.goes_past;
-      starves = own.starves;
-      first = own.first;
-      nothing = λ asks. absurd (cc (own.nothing));
-      idle = λ keeps. absurd (cc (is.calls before.buffer before.can.writable));
-      single = own.single;
-      once = own.once;
-      passes_first = own.passes_first;
-      in_hand = λ has. absurd (own.in_hand has);
-      owing = λ has. absurd (own.in_hand has);
-      brings = own.brings;
-      unread = own.unread;
-      needs = own.needs;
-      spares = λ reads. absurd (cc (settled.writes));
-      writes = λ _. own.writes;
-      answer = λ _. answers.answer accepted;
-      at_once = λ failed. absurd (cc (settled.live));
-      complete = λ _ calm sound. completes before.raw after.raw before.buffer before.can.writable call reply after.short causes answers.shorts (answers.answer accepted) calm sound;
-      told = λ tells. subst (λ (file : FlatFile). BinaryStep file call reply after.short (says_fault reply) (file_of after)) (same_file before mid passes settled.settled_by.2 tells) (answers.told (tells_still before.raw mid.raw kept ∙ tells));
-      reach = λ reads tells. subst (λ (file : FlatFile). after.place ≤ max before.place (length file.bytes)) (same_file before mid passes settled.settled_by.2 tells) (answers.reach reads (tells_still before.raw mid.raw kept ∙ tells));
-      near = answers.near;
-      hides = answers.hides;
-    }
+    let keeps : KeepsStream before after = record { buffer = answers.keeps.buffer; can = answers.keeps.can; raw = Keeps-then before.raw mid.raw after.raw kept answers.keeps.raw; bare = λ bare _. answers.keeps.bare bare (passes.kept.sound.bare (passes.kept.buffer ∙ bare) ∙ ap nothing_owed passes.still) } in
+    let shut : parts_at_close before call reply after ≡ false → after.owed.bytes ≡ [] → ClosedWith before.life before.raw → ClosedWith after.life after.raw = λ _ none closed. answers.shut (is.parts (settled_as before mid) reply after) none (passes.kept.stays ∙ closed) in
+    let parted : parts_at_close before call reply after ≡ true → StaysOpen before.raw after.raw = λ parts. absurd (cc (parts, is.parts before reply after)) in
+    let counted : IsTrue before.raw.counts_exactly → IsCounted before.buffer before.raw call reply after.raw after.short = λ exact. let counts = answers.counted (kept.counts_exactly ∙ exact) in record { faults = λ none. counts.faults none ∙ goes.no_fault exact; waits = λ whole ends. counts.waits whole ends ∙ settled.settled_by.1 exact; once = λ short ends. cc (counts.once short ends, settled.settled_by.1 exact) } in
+    let wants : WantsMemory (has_room call) reply before.raw = λ wanting room. sym kept.takes_memory ∙ answers.wants wanting room in
+    let answer : IsReplyTo before.buffer before.can.writable call reply = answers.answer (is.accepts before mid settled.accepted) in
+    let told : WhereTold before.raw (BinaryStep (file_of before) call reply after.short (says_fault reply) (file_of after)) = λ tells. subst (λ (file : FlatFile). BinaryStep file call reply after.short (says_fault reply) (file_of after)) (same_file before mid passes settled.settled_by.2 tells) (answers.told (tells_still before.raw mid.raw kept ∙ tells)) in
+    let reach : IsTrue (is_reading call) → WhereTold before.raw (after.place ≤ max before.place (length (file_of before).bytes)) = λ reads tells. subst (λ (file : FlatFile). after.place ≤ max before.place (length file.bytes)) (same_file before mid passes settled.settled_by.2 tells) (answers.reach reads (tells_still before.raw mid.raw kept ∙ tells)) in
+    search (rules, not_refused, completes)
 
 -- an answer of the stream in between is one of that stream, as it is seen from the first
 as_settled : (before mid after : Stream) (call : FileCall) (reply : FileReply) → SettledFor before call mid → Answers mid call reply after → Answers (settled_as before mid) call reply after
@@ -213,21 +181,12 @@ reading_writes before mid after call reply reads settled writes =
     let lays : LaysOwed call = lays_owed call reads in
     let passes : PassesSome before mid = settled.settled_by.0.passes in
     let none : mid.owed.bytes ≡ [] = settled.settled_by.2 in
-    record {
-      owes = λ writing. absurd (cc (is.writing));
-      takes = λ writing. absurd (cc (is.writing));
-      room = λ writing. absurd (cc (is.writing));
-      leaves = λ _. reading_passes before mid after passes none (writes.leaves is.writing);
-      stands = λ behind still. absurd (cc (reads));
-      lays = λ tells. lays.of_front before after.raw.bytes (reading_lays before mid after passes none (λ told. lays.to_front (settled_as before mid) after.raw.bytes (writes.lays told)) tells);
-      passes = is.passes before reply after;
-      full = writes.full;
-      starves = λ wants writing. absurd (cc (is.writing));
-      straight = is.straight before reply after;
-      settles = λ at. writes.settles (λ nothing. passes.at at nothing ∙ passes.still);
-      unclosed = λ some. writes.unclosed some ∙ passes.kept.stays;
-      rests = λ dead. absurd (dead settled.live);
-    }
+    let leaves : is_writing call ≡ false → PassesFront before after = λ _. reading_passes before mid after passes none (writes.leaves is.writing) in
+    let laid : WhereTold before.raw (LaysInOrder before call after.raw.bytes) = λ tells. lays.of_front before after.raw.bytes (reading_lays before mid after passes none (λ told. lays.to_front (settled_as before mid) after.raw.bytes (writes.lays told)) tells) in
+    let settles : NoneAtPlace before → NoneAtPlace after = λ at. writes.settles (λ nothing. passes.at at nothing ∙ passes.still) in
+    let unclosed : after.owed.bytes ≢ [] → after.raw.closed ≡ before.raw.closed = λ some. writes.unclosed some ∙ passes.kept.stays in
+    let rests : before.life ≢ life.Live → after.raw ≡ before.raw = λ dead. absurd (dead settled.live) in
+    search (rules)
 
 -- a stream that goes on from the bytes held does so as it is seen from the first
 ahead_settled : (before mid : Stream) (call : FileCall) → SettledFor before call mid → IsAhead mid → IsAhead (settled_as before mid)
@@ -287,11 +246,6 @@ writing_takes before mid after bytes passes none stands takes =
       told = writing_lays_taken before mid after bytes passes nothing takes;
     }
 
--- where what is owed ends at a place, and is some, it begins so many bytes before
-begins_before : (owed : Owed) (place : ℕ) → owed.bytes ≢ [] → OwesUpTo owed place → owed.place + length owed.bytes ≡ place
-begins_before owed place some (inl none) = absurd (some none)
-begins_before owed place some (inr ends) = ends
-
 -- what is owed after it is what it took and didn't pass on
 writing_owes : (before mid after : Stream) (bytes : List ℕ) → PassesSome before mid → mid.owed.bytes ≡ [] → Takes (settled_as before mid) bytes after → OwesBoth before bytes after
 writing_owes before mid after bytes passes none takes =
@@ -308,7 +262,7 @@ writing_owes before mid after bytes passes none takes =
       owes = λ some. inr (inl (record {
         passed = takes.passed;
         answered = answered;
-        leaves = record { most = omega (arith, most, as_many); bytes = owed; at = omega (arith, begins_before after.owed after.place some takes.up_to, takes.place, many, most) };
+        leaves = record { most = omega (arith, most, as_many); bytes = owed; at = omega (arith, ends_at after.owed after.place some takes.up_to, takes.place, many, most) };
       }));
       none = λ nothing. subst (λ (count : ℕ). AnswersFor (length before.owed.bytes + count) before.raw after.raw) (omega (arith, most, many, ap length nothing)) answered;
       told = writing_lays_taken before mid after bytes passes none takes;
@@ -351,21 +305,15 @@ writing_writes before mid after call reply writing is writes =
     let passes : PassesSome before mid = is.settled.settled_by.0.passes in
     let none : mid.owed.bytes ≡ [] = is.settled.settled_by.2 in
     let takes : Takes (settled_as before mid) (payload call) after = writes.takes writing (inl none) in
-    record {
-      owes = λ _. writing_owes before mid after (payload call) passes none takes;
-      takes = λ _ _. writing_takes before mid after (payload call) passes is.none is.stands takes;
-      room = λ _ has. absurd (is.roomless has);
-      leaves = λ other. absurd (cc (writing));
-      stands = λ behind. writes.stands (writing_behind before mid passes is.none is.stands);
-      lays = λ tells. giving.lays before after.raw.bytes (writing_lays before mid after (payload call) passes none (λ told. lays.to_front (settled_as before mid) after.raw.bytes (writes.lays told)) tells);
-      passes = giving.passes before reply after;
-      full = writes.full;
-      starves = λ wants gives failed. writing_took before mid after passes none (writes.starves wants gives failed);
-      straight = lays.straight before (settled_as before mid) after reply (writing_old before mid after passes is.none is.stands) writes.straight;
-      settles = λ at. writes.settles (λ nothing. passes.at at nothing ∙ passes.still);
-      unclosed = λ some. writes.unclosed some ∙ passes.kept.stays;
-      rests = λ dead. absurd (dead is.settled.live);
-    }
+    let room : IsTrue (is_writing call) → HasRoom before (payload call) → TakesAlone before call reply after = λ _ has. absurd (is.roomless has) in
+    let leaves : is_writing call ≡ false → PassesFront before after = λ other. absurd (cc (writing)) in
+    let laid : WhereTold before.raw (LaysInOrder before call after.raw.bytes) = λ tells. giving.lays before after.raw.bytes (writing_lays before mid after (payload call) passes none (λ told. lays.to_front (settled_as before mid) after.raw.bytes (writes.lays told)) tells) in
+    let starves : IsTrue (says_no_memory reply) → IsTrue (is_writing call) → after.life ≡ life.Failed → TookOwn before after = λ wants gives failed. writing_took before mid after passes none (writes.starves wants gives failed) in
+    let straight : OwesNoneOfIts before call reply after = lays.straight before (settled_as before mid) after reply (writing_old before mid after passes is.none is.stands) writes.straight in
+    let settles : NoneAtPlace before → NoneAtPlace after = λ at. writes.settles (λ nothing. passes.at at nothing ∙ passes.still) in
+    let unclosed : after.owed.bytes ≢ [] → after.raw.closed ≡ before.raw.closed = λ some. writes.unclosed some ∙ passes.kept.stays in
+    let rests : before.life ≢ life.Live → after.raw ≡ before.raw = λ dead. absurd (dead is.settled.live) in
+    search (rules, writing_owes, writing_takes, writing_behind, writes.stands, giving.passes)
 
 -- what the answer of a call that writes, after a passing on, has of its own
 writing_own : (before mid after : Stream) (call : FileCall) (reply : FileReply) → is_writing call ≡ true → SettledWriting before call mid → Answers (settled_as before mid) call reply after → AfterSettling before call reply after

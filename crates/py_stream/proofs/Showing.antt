@@ -66,7 +66,7 @@ pub record Shows (before : Stream) (call : FileCall) (reply : FileReply) (after 
   pub near : after.life ≡ life.Live → IsNear after
 
 -- a call that is let through isn't refused
-not_refused : (before : Stream) (call : FileCall) (expected reply : FileReply) (after : Stream) (why : IoFault) → refused_by before call ≡ None → refused_by before call ≡ Some why → Leaves before expected reply after
+pub not_refused : (before : Stream) (call : FileCall) (expected reply : FileReply) (after : Stream) (why : IoFault) → refused_by before call ≡ None → refused_by before call ≡ Some why → Leaves before expected reply after
 not_refused before call expected reply after why none some = let wrong : None ≡ Some why = sym none ∙ some in absurd (cc)
 
 -- what a call has of its own answers it

@@ -14,14 +14,14 @@ use Rattle.py_flat.specs.FlatFile.{FlatFile}
 use Rattle.py_flat.specs.ExactStep.{in_life, is_closed}
 use Rattle.py_flat.specs.AllowedStep.{settled}
 use Rattle.py_flat.specs.BinaryStep.{BinaryStep, SettledBy}
-use Rattle.py_raw.specs.RawStream.{WhereTold, NoWait, KeepsReads}
+use Rattle.py_raw.specs.RawStream.{WhereTold, NoWait, KeepsReads, StaysOpen}
 use Rattle.py_raw.proofs.Telling.{tells_its_bytes}
 use Rattle.py_raw.proofs.ReadingOn.{Keeps-then, no_fault_then, no_wait_then}
 use Rattle.py_stream.specs.Stream.{Stream, file_of, nothing_owed, nothing_held}
 use Rattle.py_stream.specs.Kinds.{says_fault, says_no_memory}
 use Rattle.py_stream.specs.Replies.{done_reply}
 use Rattle.py_stream.specs.Writing.{NoneAtPlace, PassesFront, LaysFront, PassedOn, PassesOn, BlocksFull, Writes}
-use Rattle.py_stream.specs.Answers.{Answers, KeepsStream, HasCauses, IsCounted, IsShort, LifeMoves, PlaceMoves, SeekStands, IsReplyTo, SparesBytes, moves_back, parts_at_close}
+use Rattle.py_stream.specs.Answers.{Answers, KeepsStream, HasCauses, IsCounted, IsShort, LifeMoves, PlaceMoves, SeekStands, IsReplyTo, SparesBytes, moves_back, parts_at_close, ClosedWith, IsNear}
 use Rattle.py_stream.specs.Settling.{PassesSome, LivesOn, FailsBack, SettleOutcome}
 use Rattle.py_stream.specs.Ending.{ClosingOutcome, ClosesRaw, CloseRawOutcome}
 use Rattle.py_stream.proofs.Begun.{answers_whole}
@@ -172,42 +172,13 @@ closed_there old new reply shuts = grind (arith, eqb_tells)
 
 shut_answers : (old new : Stream) (reply : FileReply) → Asked old Close → IsShutting reply → ShutsDown old new → ClosesWith old new reply → Answers old Close reply new
 shut_answers old new reply asked shutting shuts closes =
-    let writes : Writes old Close reply new = passing_writes old Close reply new asked.none (record {
-      leaves = shuts.leaves;
-      stands = λ _ some. absurd (some shuts.none);
-      lays = shuts.lays;
-      passes = shutting.passes old new (record { none = shuts.none; holds = shuts.holds });
-      full = shutting.full new;
-      settles = λ none _. shuts.at none;
-      unclosed = λ some. absurd (some shuts.none);
-      rests = λ dead. absurd (dead asked.live);
-    }) in
-    shows_answers old Close reply new asked.none (record {
-      keeps = shuts.keeps;
-      passes = asked.passes;
-      again = λ closes_twice. absurd (cc (asked.again));
-      shut = λ _ _ _. shuts.closed ∙ sym (ap is_closed shuts.life_is);
-      parted = λ parts. absurd (cc (parts, closed_there old new reply shuts));
-      causes = closes.causes;
-      counted = closes.counted;
-      shorts = shutting.shorts new.short shuts.short;
-      life_is = subst (LifeMoves old.buffer Close reply old.life) (sym shuts.life_is) (shutting.life_is old.buffer old.life);
-      place = subst (PlaceMoves old.buffer Close reply new.life old.place) (sym shuts.place) (shutting.place old.buffer new.life old.place);
-      far = shuts.far;
-      ends = tt;
-      seeks = shutting.seeks old new;
-      wants = λ wanting. absurd (cc (shutting.no_want));
-      idle = λ idle. absurd (cc (asked.busy));
-      reads = shuts.reads;
-      in_hand = λ has. absurd has.of;
-      owing = λ has. absurd has.of;
-      spares = λ reads _. shuts.spares reads;
-      writes = λ _. writes;
-      at_once = λ failed is. absurd (cc);
-      answer = shutting.answer old.buffer old.can.writable;
-      told = closes.told;
-      near = λ lives. absurd (cc (shuts.life_is));
-    })
+    let writes : Writes old Close reply new = passing_writes old Close reply new asked.none (grind arith) in
+    let shut : ClosedWith new.life new.raw = shuts.closed ∙ sym (ap is_closed shuts.life_is) in
+    let life_is : LifeMoves old.buffer Close reply old.life new.life = subst (LifeMoves old.buffer Close reply old.life) (sym shuts.life_is) (shutting.life_is old.buffer old.life) in
+    let place : PlaceMoves old.buffer Close reply new.life old.place new.place = subst (PlaceMoves old.buffer Close reply new.life old.place) (sym shuts.place) (shutting.place old.buffer new.life old.place) in
+    let parted : parts_at_close old Close reply new ≡ true → StaysOpen old.raw new.raw = λ parts. absurd (cc (parts, closed_there old new reply shuts)) in
+    let near : new.life ≡ life.Live → IsNear new = λ lives. absurd (cc (shuts.life_is)) in
+    shows_answers old Close reply new asked.none (search (rules))
 
 closes_raw : (old mid new : Stream) (result : Result (Unit {0}) IoFault) → ReadyToClose old mid → CloseRawOutcome mid result new → Answers old Close (done_reply result) new
 closes_raw old mid new (Ok done) ready closes =

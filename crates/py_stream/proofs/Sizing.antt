@@ -1,24 +1,25 @@
 -- The answers of `truncate`, as its steps come: what refuses it, what is passed on before, and the giving of the size.
-use Rattle.std.proofs.Common.{◌≡◌, ℕ, ◌<◌, ◌≤◌, ◌⊎◌, inl, inr, Bool, true, false, List, [], Option, Some, None, IsSome, Ok, Err, refl, sym, ap, ◌∙◌, subst, arith}
+use Rattle.std.proofs.Common.{◌≡◌, ℕ, ◌<◌, ◌≤◌, ◌⊎◌, inl, inr, Bool, true, false, List, [], Option, Some, None, IsSome, Ok, Err, refl, sym, ap, ◌∙◌, subst, arith, ◌≢◌, rules, IsTrue}
 use Rattle.py_flat.specs.declared.fault.IoFault.{IoFault}
 use Rattle.py_flat.specs.declared.fault.IoFault.TheVariants as fault
 use Rattle.py_flat.specs.declared.life.Life.TheVariants as life
 use Rattle.py_flat.specs.Bytes.{lay, resized}
 use Rattle.py_flat.specs.Limits.{greatest_place}
+use Rattle.py_flat.specs.Causes.{Rose}
 use Rattle.py_flat.specs.Owed.{Owed}
 use Rattle.py_flat.specs.Calls.{FileCall, Truncate, Place, Refused}
 use Rattle.py_flat.specs.FlatFile.{Abilities, FlatFile}
 use Rattle.py_flat.specs.Refusals.{refusal, lacks}
-use Rattle.py_flat.specs.ExactStep.{is_closed, truncated}
+use Rattle.py_flat.specs.ExactStep.{truncated}
 use Rattle.py_flat.specs.AllowedStep.{raw_faulted}
-use Rattle.py_flat.specs.BinaryStep.{SettledBy, Fails, FaultedBy}
+use Rattle.py_flat.specs.BinaryStep.{SettledBy, Fails, FaultedBy, BinaryStep}
 use Rattle.py_raw.specs.RawStream.{WhereTold, NoWait}
 use Rattle.py_raw.proofs.Telling.{keeps_same, tells_its_bytes}
 use Rattle.py_raw.proofs.ReadingOn.{no_fault_then, no_wait_then}
-use Rattle.py_stream.specs.Stream.{Stream, buffering_of, file_of, nothing_owed, nothing_held}
+use Rattle.py_stream.specs.Stream.{Stream, buffering_of, file_of, nothing_owed}
 use Rattle.py_stream.specs.LiveRaw.{is_truncatable}
-use Rattle.py_stream.specs.Writing.{size_asked, NoneAtPlace, PassesFront, LaysThenCuts, StandsBare, Writes}
-use Rattle.py_stream.specs.Answers.{Answers}
+use Rattle.py_stream.specs.Writing.{size_asked, NoneAtPlace, PassesFront, LaysThenCuts, StandsBare, Writes, OwesBehind}
+use Rattle.py_stream.specs.Answers.{Answers, IsCounted}
 use Rattle.py_stream.specs.Keeping.{IsSound, KeepsOn}
 use Rattle.py_stream.specs.Settling.{LivesOn, SettleOutcome}
 use Rattle.py_stream.specs.Moving.{Begins, keeps_pending, OwesBy, SettlesBy}
@@ -163,29 +164,17 @@ module _ (old mid new : Stream) (asks : Asks old mid new) where
 
 -- a stream that holds nothing, with its raw at the place, stands so once the bytes have the size
 still_bare : (mid new : Stream) → KeepsPlace mid new → StandsBare mid → StandsBare new
-still_bare mid new keeps bare = record {
-  none = ap (λ (owed : Owed). owed.bytes) keeps.owed ∙ bare.none;
-  held = keeps.held ∙ bare.held ∙ ap nothing_held (sym keeps.place);
-  stands = keeps.raw_place ∙ bare.stands ∙ sym keeps.place;
-}
+still_bare mid new keeps bare = grind arith
 
 -- what a truncation does with what is owed
 truncation_writes : (old mid new : Stream) (size : Option ℕ) → Asks old mid new → StandsBare mid → new.life ≡ life.Live → WhereTold old.raw (new.raw.bytes ≡ resized (flat_of old) (size_asked old size)) → Writes old (Truncate size) (Place (size_asked old size)) new
-truncation_writes old mid new size asks bare lives bytes = record {
-  owes = λ writing. absurd (cc);
-  takes = λ writing. absurd (cc);
-  room = λ writing. absurd (cc);
-  leaves = λ _. leaves_front old mid new asks;
-  stands = λ _ _ some. absurd (some (none old mid new asks));
-  lays = λ tells. record { between = mid.raw.bytes; lays = asks.settled_by.0.passes.lays tells; cuts = inr (bytes tells ∙ sym (ap (λ (all : List ℕ). resized all (size_asked old size)) (passed_all old mid asks.settled_by.0.passes asks.settled_by.2 tells))) };
-  passes = record { bare = still_bare mid new asks.keeps bare; holds = bytes };
-  full = tt;
-  starves = λ wanting. absurd (cc);
-  straight = tt;
-  settles = λ at _. at_place old mid new asks at;
-  unclosed = λ some. absurd (some (none old mid new asks));
-  rests = λ dead. absurd (dead asks.may.live);
-}
+truncation_writes old mid new size asks bare lives bytes =
+    let nothing : new.owed.bytes ≡ [] = none old mid new asks in
+    let lays : WhereTold old.raw (LaysThenCuts old (size_asked old size) new.raw.bytes) = λ tells. record { between = mid.raw.bytes; lays = asks.settled_by.0.passes.lays tells; cuts = inr (bytes tells ∙ sym (ap (λ (all : List ℕ). resized all (size_asked old size)) (passed_all old mid asks.settled_by.0.passes asks.settled_by.2 tells))) } in
+    let rests : old.life ≢ life.Live → new.raw ≡ old.raw = λ dead. absurd (dead asks.may.live) in
+    let unclosed : new.owed.bytes ≢ [] → new.raw.closed ≡ old.raw.closed = λ some. absurd (some nothing) in
+    let stands : OwesBehind old → new.owed.bytes ≢ [] → new.raw_place ≡ new.owed.place = λ _ some. absurd (some nothing) in
+    search (rules, leaves_front, at_place, still_bare)
 
 bytes_given : (old mid new : Stream) (size : ℕ) → Asks old mid new → Resizes mid size new → WhereTold old.raw (new.raw.bytes ≡ resized (flat_of old) size)
 bytes_given old mid new size asks resizes tells =
@@ -255,32 +244,12 @@ size_fails old mid new size within asks fails =
     let asked : Asked old call = (truncating old size may within).asked in
     let keeps : KeepsOn old new = kept old mid new asks in
     let short : new.short ≡ false = keeps.short ∙ may.whole in
-    shows_answers old call (Refused fault.RawFault) new asked.none (record {
-      keeps = record { buffer = keeps.buffer; can = keeps.can; raw = keeps.raw; bare = λ bare _. keeps.sound.bare (keeps.buffer ∙ bare) };
-      passes = asked.passes;
-      again = λ closes. absurd (cc);
-      shut = λ _ none closed. keeps.stays ∙ stays_open old new.life may.live (ap is_closed fails.failed) closed;
-      parted = λ _. keeps.stays;
-      causes = record { waits = λ waited. absurd (cc); faults = λ _. faulted_then old.raw mid.raw new.raw asks.settled_by.0.passes.kept.raw fails.cause };
-      counted = λ exact. record { faults = λ sound. absurd (cc); waits = λ _ _. no_wait old mid new asks exact; once = λ waited. absurd (cc) };
-      shorts = short;
-      life_is = fails.failed;
-      place = still old mid new asks;
-      far = keeps.sound.far;
-      ends = tt;
-      seeks = tt;
-      wants = λ wanting. absurd (cc);
-      idle = λ idle. absurd (cc (asked.busy));
-      reads = keeps.reads;
-      in_hand = λ has. absurd has.of;
-      owing = λ has. absurd has.of;
-      spares = λ reads. absurd (cc (may.writes));
-      writes = λ _. failing_writes old mid new size asks (lays_or_cuts old mid new (size_asked old size) asks fails);
-      at_once = λ failed is. absurd (cc);
-      answer = tt;
-      told = λ tells. raw_faulted refl refl (asked.reaches, faulted_by old mid new size asks fails tells);
-      near = λ lives. absurd (cc (fails.failed));
-    })
+    let counted : IsTrue old.raw.counts_exactly → IsCounted old.buffer old.raw call (Refused fault.RawFault) new.raw new.short = λ exact. record { faults = λ sound. absurd (cc); waits = λ _ _. no_wait old mid new asks exact; once = λ waited. absurd (cc) } in
+    let rose : Rose old.raw.faults new.raw.faults = faulted_then old.raw mid.raw new.raw asks.settled_by.0.passes.kept.raw fails.cause in
+    let place : new.place ≡ old.place = still old mid new asks in
+    let writes : Writes old call (Refused fault.RawFault) new = failing_writes old mid new size asks (lays_or_cuts old mid new (size_asked old size) asks fails) in
+    let told : WhereTold old.raw (BinaryStep (file_of old) call (Refused fault.RawFault) new.short true (file_of new)) = λ tells. raw_faulted refl refl (asked.reaches, faulted_by old mid new size asks fails tells) in
+    shows_answers old call (Refused fault.RawFault) new asked.none (search (rules, stays_open))
 
 resize_fails : (old mid new : Stream) (size : Option ℕ) (why : IoFault) → MayTruncate old → IsWithin old size → SettleOutcome old (Ok tt) mid → ResizeOutcome mid (size_asked old size) (Err why) new → Answers old (Truncate size) (Refused why) new
 resize_fails old mid new size fault.RawFault may within settled_by fails = size_fails old mid new size within (record { may = may; settled_by = settled_by; keeps = fails.keeps }) fails

@@ -21,7 +21,7 @@ Writing old started = BeginsWriting (stream_of old) (Ok tt) (stream_of started)
 
 -- bytes that fit may be written
 may_write : (old started : EngineView) (bytes : List ℕ) → Writing old started → started.place + length bytes ≤ greatest_place → MayWrite (stream_of started) (Write bytes)
-may_write old started bytes began fits = record { writing = refl; sound = began.0.sound; behind = began.0.behind; live = began.0.live; can = began.0.writes; within = fits }
+may_write old started bytes began fits = record { gives = record { writing = refl; sound = began.0.sound; live = began.0.live; can = began.0.writes; within = fits }; behind = began.0.behind }
 
 -- Writing by one transfer.
 
