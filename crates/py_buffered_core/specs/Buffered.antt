@@ -50,14 +50,6 @@ Reads stream = (stream.can.readable ≡ true) × (stream.can.writable ≡ false)
 abbrev pub Writes : Stream → Type 0
 Writes stream = (stream.can.readable ≡ false) × (stream.can.writable ≡ true)
 
--- a stream that is read and written
-abbrev pub ReadsAndWrites : Stream → Type 0
-ReadsAndWrites stream = (stream.can.readable ≡ true) × (stream.can.writable ≡ true)
-
--- a reader: it is only read, so no write took anything
-abbrev pub IsReader : BufferedView → Type 0
-IsReader view = Reads (seen_of view) × (view.taken ≡ 0)
-
 -- Looking.
 
 -- the bytes that an engine holds from its place on
