@@ -10,7 +10,7 @@ ghost use Rattle.py_stream.specs.Replies.{bytes_reply, into_reply, CountFits, Ke
 ghost use Rattle.py_stream.specs.Taken.{stream_in};
 ghost use Rattle.py_stream.specs.Opening.{StandsAtStart, NewOutcome, opened_as};
 
-use crate::{BufferedKind, BufferedOver, ReadWrite};
+use crate::{AlsoRead, BufferedKind, BufferedOver, ReadWrite, ReadsToo};
 use py_buffered_core::Buffered;
 use py_raw::{IoFault, Lines, RawStream};
 use py_stream::{Access, NewRefused};
@@ -40,7 +40,8 @@ pub type BufferedRandom<R> = BufferedOver<R, ReadWrite>;
 
 impl<R: RawStream> BufferedRandom<R> {
     ghost use Rattle.py_buffered.specs.contracts.buffered_over.BufferedOver.{the_row};
-    ghost use Rattle.py_buffered.specs.contracts.kind.ReadWrite.{the_row as kind_row};
+    ghost use Rattle.py_buffered.specs.contracts.kind.Written.{the_row as kind_row};
+    ghost use Rattle.py_buffered.specs.contracts.kind.AlsoRead.{the_row as read_row};
 
     /// A stream that is read and written, over a raw stream, from where that stands, with a buffer of `buffer_size` bytes. The raw is
     /// asked where it stands.
@@ -91,7 +92,7 @@ impl<R: RawStream> BufferedRandom<R> {
     ///
     /// It takes no memory: `NoMemory` comes only of a raw that takes some.
     pub fn peek(&mut self) -> Result<Option<&[u8]>, IoFault>
-        ensures* { sem 𝓛 (Rests (the_row R.row kind_row R.RawStream ⟦<ReadWrite as BufferedKind>⟧) self.entry (λ new. Answers self.old.stream Peek (lent_reply result) new.stream × (new.taken ≡ self.old.taken))) }
+        ensures* { sem 𝓛 (Rests (the_row R.row (kind_row read_row ⟦<AlsoRead as ReadsToo>⟧) R.RawStream ⟦<ReadWrite as BufferedKind>⟧) self.entry (λ new. Answers self.old.stream Peek (lent_reply result) new.stream × (new.taken ≡ self.old.taken))) }
     {
         match self.inner.look() {
             Ok(true) => Ok(Some(self.inner.held())),

@@ -2,7 +2,7 @@
 ghost use Rattle.std.specs.Prelude.{◌≡◌, ℕ, Bool, true, if◌then◌else◌};
 ghost use Rattle.py_stream.specs.Stream.{Stream};
 
-use std::marker::Model;
+use std::marker::{Model, PhantomData};
 
 /// A kind of buffered streams. `ReadOnly`, `WriteOnly` and `ReadWrite` are the three; none of them is ever made.
 ///
@@ -73,11 +73,51 @@ impl BufferedKind for ReadOnly {
     ghost keeps_taken = { λ whole count. refl };
 }
 
-/// The kind of a writer.
-#[derive(Debug, Drop)]
-pub struct WriteOnly;
+/// Whether the streams of a kind that writes are read too.
+pub trait ReadsToo {
+    ghost READS: { Bool };
 
-impl Model for WriteOnly {
+    /// Whether they are read.
+    const READS: bool;
+}
+
+/// Streams that are only written.
+#[derive(Debug, Drop)]
+pub struct NotRead;
+
+impl ReadsToo for NotRead {
+    ghost use Rattle.std.specs.Prelude.{false};
+
+    ghost READS = { false };
+
+    const READS: bool = false;
+}
+
+/// Streams that are read too.
+#[derive(Debug, Drop)]
+pub struct AlsoRead;
+
+impl ReadsToo for AlsoRead {
+    ghost use Rattle.std.specs.Prelude.{true};
+
+    ghost READS = { true };
+
+    const READS: bool = true;
+}
+
+/// A kind of streams that are written, by whether they are read too.
+#[derive(Debug, Drop)]
+pub struct Written<A: ReadsToo> {
+    reads: PhantomData<A>,
+}
+
+/// The kind of a writer.
+pub type WriteOnly = Written<NotRead>;
+
+/// The kind of a stream that is read and written.
+pub type ReadWrite = Written<AlsoRead>;
+
+impl<A: ReadsToo> Model for Written<A> {
     ghost use Rattle.std.specs.Prelude.{false, None};
     ghost use Rattle.py_stream.specs.Stream.{writer_can, detached_stream};
     ghost use Rattle.py_stream.specs.Taken.{WriterView};
@@ -87,54 +127,12 @@ impl Model for WriteOnly {
     ghost view = { λ _. record { stream = detached_stream (writer_can false false) None; taken = 0 } };
 }
 
-impl BufferedKind for WriteOnly {
-    ghost use Rattle.std.specs.Prelude.{true, false, refl};
-
-    ghost READS = { false };
-
-    const READS: bool = false;
-
-    ghost WRITES = { true };
-
-    const WRITES: bool = true;
-
-    ghost seen = { λ whole count. record { stream = whole; taken = count } };
-
-    ghost stream = { λ view. view.stream };
-
-    ghost taken = { λ view. view.taken };
-
-    ghost keeps_stream = { λ whole count. refl };
-
-    ghost keeps_taken = { λ whole count. refl };
-}
-
-impl WritingKind for WriteOnly {
-    ghost use Rattle.std.specs.Prelude.{refl};
-
-    ghost writes = { refl };
-}
-
-/// The kind of a stream that is read and written.
-#[derive(Debug, Drop)]
-pub struct ReadWrite;
-
-impl Model for ReadWrite {
-    ghost use Rattle.std.specs.Prelude.{false, None};
-    ghost use Rattle.py_stream.specs.Stream.{reader_can, detached_stream};
-    ghost use Rattle.py_stream.specs.Taken.{WriterView};
-
-    ghost Value = { WriterView };
-
-    ghost view = { λ _. record { stream = detached_stream (reader_can false) None; taken = 0 } };
-}
-
-impl BufferedKind for ReadWrite {
+impl<A: ReadsToo> BufferedKind for Written<A> {
     ghost use Rattle.std.specs.Prelude.{true, refl};
 
-    ghost READS = { true };
+    ghost READS = { A.READS };
 
-    const READS: bool = true;
+    const READS: bool = A::READS;
 
     ghost WRITES = { true };
 
@@ -151,7 +149,7 @@ impl BufferedKind for ReadWrite {
     ghost keeps_taken = { λ whole count. refl };
 }
 
-impl WritingKind for ReadWrite {
+impl<A: ReadsToo> WritingKind for Written<A> {
     ghost use Rattle.std.specs.Prelude.{refl};
 
     ghost writes = { refl };

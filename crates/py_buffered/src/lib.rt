@@ -12,6 +12,8 @@ pub use buffered_over::BufferedOver;
 pub use buffered_random::BufferedRandom;
 pub use buffered_reader::BufferedReader;
 pub use buffered_writer::BufferedWriter;
-pub use kind::{BufferedKind, ReadOnly, ReadWrite, WriteOnly, WritingKind};
+pub use kind::{
+    AlsoRead, BufferedKind, NotRead, ReadOnly, ReadWrite, ReadsToo, WriteOnly, WritingKind, Written,
+};
 pub use lines::BufferedLines;
 pub use py_stream::{Detached, NewRefused, Whence, a_seek_to_the_told_place_keeps_all};
