@@ -1,6 +1,6 @@
 -- What a text asks its buffer for: no chunk that it needn't.
-use Rattle.std.proofs.Common.{◌≡◌, ℕ, zero, suc, ◌+◌, ◌-◌, ◌≤◌, ◌<◌, inl, inr, min, max, Bool, true, false, ◌||◌, nat_le, nat_eq, if◌then◌else◌, List, [], ◌∷◌, ◌++◌, length, take, Option, Some, None, refl, sym, ap, subst, ◌∙◌, arith}
-use Rattle.std.proofs.lemmas.List.{append-nil, length-append, length-take, take-append-le}
+use Rattle.std.proofs.Common.{◌≡◌, ℕ, zero, suc, ◌+◌, ◌-◌, ◌≤◌, ◌<◌, inr, min, max, Bool, true, false, ◌||◌, nat_le, nat_eq, if◌then◌else◌, List, [], ◌∷◌, ◌++◌, length, take, Option, Some, None, refl, sym, ap, subst, ◌∙◌, arith}
+use Rattle.std.proofs.lemmas.List.{append-nil, length-take, take-append-le}
 use Rattle.std.proofs.lemmas.Bool.{leb-false}
 use Rattle.py_flat.specs.declared.life.Life.TheVariants as life
 use Rattle.py_flat.specs.Bytes.{left_at}
@@ -10,18 +10,18 @@ use Rattle.py_plain.specs.declared.newlines.Newlines.{Newlines}
 use Rattle.py_plain.specs.Items.{characters_of}
 use Rattle.py_plain.specs.NewlineRule.{line_end, read_all}
 use Rattle.py_plain_text.specs.TextFile.{TextFile}
-use Rattle.py_plain_text.specs.Rest.{Rest, text_rest}
+use Rattle.py_plain_text.specs.Rest.{Rest}
 use Rattle.py_raw.proofs.Telling.{tells_still}
-use Rattle.py_stream.specs.Buffer.{Buffer, WhereShown, flat_of}
+use Rattle.py_stream.specs.Buffer.{WhereShown, flat_of}
 use Rattle.py_held_text.specs.declared.wanted.Wanted.{Wanted}
 use Rattle.py_held_text.specs.declared.wanted.Wanted.TheVariants.{Characters, Line}
-use Rattle.py_held_text.specs.Held.{HeldView, ahead, left_so_far}
+use Rattle.py_held_text.specs.Held.{ahead, left_so_far}
 use Rattle.py_held_text.specs.Decodes.{IsDrained}
 use Rattle.py_held_text.specs.Finding.{enough}
 use Rattle.py_read_text.specs.Waiting.{bytes_between}
 use Rattle.py_read_text.specs.Ahead.{known_at, IsLacking, LeavesOpen, AsksAsNeeded}
 use Rattle.py_read_text.specs.Knowing.{TextView, from_place, shown_file, IsText}
-use Rattle.py_read_text.specs.Reading.{call_of, rest_of, Reads, KeepsPlace, Brings, GathersAsNeeded}
+use Rattle.py_read_text.specs.Reading.{call_of, Reads, KeepsPlace, Brings, GathersAsNeeded}
 use Rattle.py_read_text.proofs.Following.{so_far_empty}
 use Rattle.py_read_text.proofs.Steps.{Tied, rest_is}
 use Rattle.py_read_text.proofs.Answering.{tied_of}

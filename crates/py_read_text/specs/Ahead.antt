@@ -7,7 +7,7 @@ use Rattle.py_plain.specs.NewlineRule.{line_end, read_so_far}
 use Rattle.py_plain_text.specs.TextFile.{TextFile}
 use Rattle.py_plain_text.specs.TextCalls.{TextFileCall, Read, ReadLine}
 use Rattle.py_plain_text.specs.Rest.{text_rest}
-use Rattle.py_stream.specs.Buffer.{Buffer, WhereShown}
+use Rattle.py_stream.specs.Buffer.{WhereShown}
 use Rattle.py_read_text.specs.TextState.{TextState, file_of}
 use Rattle.py_read_text.specs.Waiting.{taken_walk}
 

@@ -1,5 +1,5 @@
 -- A settled reply of a text blames neither the raw nor memory.
-use Rattle.std.proofs.Common.{◌≡◌, ◌≢◌, ℕ, ◌+◌, zero, suc, ℤ, pos, Bool, true, false, ◌&&◌, not, nat_eq, nat_lt, List, length, Option, Some, None, if◌then◌else◌, refl, sym, ap, ◌∙◌, subst}
+use Rattle.std.proofs.Common.{◌≡◌, ◌≢◌, ℕ, ◌+◌, zero, suc, ℤ, pos, Bool, true, false, not, nat_eq, List, length, Option, Some, None, if◌then◌else◌, refl, sym, ap, ◌∙◌}
 use Rattle.py_flat.specs.declared.fault.IoFault.{IoFault}
 use Rattle.py_flat.specs.declared.fault.IoFault.TheVariants as fault
 use Rattle.py_flat.specs.declared.life.Life.{Life}
@@ -13,12 +13,12 @@ use Rattle.py_plain_text.specs.Cookie as cookie
 use Rattle.py_plain_text.specs.Landing.{Landed, Stands, CantRestore, lands}
 use Rattle.py_plain_text.specs.Rest.{text_rest}
 use Rattle.py_plain_text.specs.TextFile.{TextFile}
-use Rattle.py_plain_text.specs.TextStep.{range_refusal, answered_text, asks_past, after_text_read, after_taking, asks_any}
-use Rattle.py_plain_text.specs.TextCalls.{TextFileCall, Read, ReadLine, WriteText, SeekText, Tell, Reconfigure, SetChunkSize, Flush, Close, Detach, ChunkSize, Readable, Writable, Seekable, Closed, Encoding, Errors, OtherKind, Changes, changes_reading, is_getter}
-use Rattle.py_plain_text.specs.TextRefusals.{refusal, lets_through, life_refusal, lacks, whence_refusal, counts_on, cookie_refusal, end_refusal, encode_error, dirty_refusal, write_refusal, fits_handler, handler_refusal, changes_refusal, argument_refusal}
+use Rattle.py_plain_text.specs.TextStep.{range_refusal, answered_text}
+use Rattle.py_plain_text.specs.TextCalls.{TextFileCall, Read, ReadLine, WriteText, SeekText, Reconfigure, SetChunkSize, Detach, Closed, changes_reading, is_getter}
+use Rattle.py_plain_text.specs.TextRefusals.{refusal, lets_through, life_refusal, lacks, whence_refusal, counts_on, cookie_refusal, end_refusal, encode_error, dirty_refusal, fits_handler, handler_refusal, argument_refusal}
 use Rattle.py_plain_text.specs.TextWriting.{written_bytes, written_refusal}
-use Rattle.py_plain_text.specs.TextExact.{carried_out, sought_cookie, after_landing, text_sought}
-use Rattle.py_plain_text.specs.TextAllowed.{DetachesIn, Accepted, SettledBy, Settled, HandsBack}
+use Rattle.py_plain_text.specs.TextExact.{carried_out, sought_cookie, after_landing}
+use Rattle.py_plain_text.specs.TextAllowed.{DetachesIn, Accepted, SettledBy, Settled}
 
 -- a reply that isn't ready, or of which the fault is the raw's or a want of memory
 abbrev pub blames_other : FileReply → Bool

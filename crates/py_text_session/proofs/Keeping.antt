@@ -1,6 +1,5 @@
 -- What holds of a text session goes on to hold, whatever a call answers.
-use Rattle.std.proofs.Common.{◌≡◌, ◌≢◌, inl, inr, Bool, true, false, Option, Some, None, refl, sym, ap, ◌∙◌, subst}
-use Rattle.py_flat.specs.declared.fault.IoFault.{IoFault}
+use Rattle.std.proofs.Common.{◌≡◌, ◌≢◌, inl, inr, Bool, true, false, Some, refl, sym, ap, ◌∙◌, subst}
 use Rattle.py_flat.specs.declared.fault.IoFault.TheVariants as fault
 use Rattle.py_flat.specs.declared.life.Life.{Life}
 use Rattle.py_flat.specs.declared.life.Life.TheVariants as life
@@ -13,7 +12,6 @@ use Rattle.py_plain_text.specs.TextCalls.{TextFileCall, Read, ReadLine, WriteTex
 use Rattle.py_plain_text.specs.TextRefusals.{refusal}
 use Rattle.py_stream.specs.Buffer.{Buffer, IsClosedWithRaw}
 use Rattle.py_read_text.specs.TextState.{TextState, file_of}
-use Rattle.py_read_text.specs.Owing.{may_close}
 use Rattle.py_read_text.specs.Answers.{Answers, LifeMoves, life_after}
 use Rattle.py_text_session.specs.Session.{OwesNothing, IsOpen, IsTextSession}
 

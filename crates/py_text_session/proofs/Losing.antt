@@ -22,10 +22,10 @@ use Rattle.py_plain_text.specs.TextFile.{TextFile}
 use Rattle.py_plain_text.specs.TextStep.{range_refusal, asks_any, after_taking, at_the_end, answered_text, ReadsTextPart}
 use Rattle.py_plain_text.specs.Cookie as cookie
 use Rattle.py_plain_text.specs.Landing.{Landed, Stands, CantRestore, lands}
-use Rattle.py_plain_text.specs.TextCalls.{TextFileCall, Read, ReadLine, WriteText, SeekText, Tell, Reconfigure, SetChunkSize, Flush, Close, Detach, ChunkSize, Readable, Writable, Seekable, Closed, Encoding, Errors, OtherKind}
+use Rattle.py_plain_text.specs.TextCalls.{TextFileCall, Read, ReadLine, WriteText, SeekText, Flush, Close, Detach, Closed}
 use Rattle.py_plain_text.specs.TextRefusals.{refusal}
 use Rattle.py_plain_text.specs.TextExact.{carried_out, sought_cookie, after_landing}
-use Rattle.py_plain_text.specs.TextAllowed.{DetachesIn, Accepted, SettledBy, Settled, WaitedBy, Starved, TextFileStep}
+use Rattle.py_plain_text.specs.TextAllowed.{DetachesIn, Accepted, SettledBy, WaitedBy, Starved, TextFileStep}
 use Rattle.py_text_session.specs.Laws.{LosesNothing, moves_on}
 use Rattle.py_text_session.proofs.Blaming.{settled_not}
 

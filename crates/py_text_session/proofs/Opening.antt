@@ -1,24 +1,23 @@
 -- A text session is opened as its buffer is, and the text stands over that.
-use Rattle.std.proofs.Common.{◌≡◌, ◌≢◌, ◌≤◌, ◌<◌, ℕ, inl, Bool, true, false, IsTrue, IsFalse, not, nat_eq, List, [], Option, Some, None, IsSome, refl, sym, ap, ◌∙◌, subst, arith}
-use Rattle.py_flat.specs.declared.fault.IoFault.{IoFault}
+use Rattle.std.proofs.Common.{◌≡◌, ◌<◌, ℕ, inl, Bool, true, false, not, nat_eq, List, Some, None, sym, ap, ◌∙◌, subst, arith}
 use Rattle.py_flat.specs.declared.fault.IoFault.TheVariants as fault
 use Rattle.py_flat.specs.declared.life.Life.{Life}
 use Rattle.py_flat.specs.declared.life.Life.TheVariants as life
 use Rattle.py_flat.specs.Bytes.{lay}
 use Rattle.py_flat.specs.ExactStep.{is_closed}
-use Rattle.py_flat.specs.FlatFile.{Abilities, Buffering}
+use Rattle.py_flat.specs.FlatFile.{Abilities}
 use Rattle.py_flat.specs.Owed.{Owed}
 use Rattle.py_flat.specs.Refusals.{is_unbuffered, or_else, refused_if, life_fault}
 use Rattle.py_plain.specs.Units.{Unknown}
 use Rattle.py_plain_text.specs.TextFile.{TextFile, clean_at}
 use Rattle.py_plain_text.specs.TextOver.{TextOver, text_file_of}
 use Rattle.py_plain_text.specs.TextRefusals.{fits_handler}
-use Rattle.py_raw.specs.RawStream.{Raw, WherePlace, LeavesCounts}
+use Rattle.py_raw.specs.RawStream.{Raw, LeavesCounts}
 use Rattle.py_stream.specs.declared.access.Access.{Access}
-use Rattle.py_stream.specs.Access.{can_of, is_able, is_appended}
+use Rattle.py_stream.specs.Access.{can_of, is_able}
 use Rattle.py_stream.specs.Stream.{Stream, nothing_owed, buffering_of}
 use Rattle.py_stream.specs.Buffer.{Buffer, buffer_of, flat_of}
-use Rattle.py_stream.specs.Opening.{Opens, Untouched, begins_at, tells_start}
+use Rattle.py_stream.specs.Opening.{Opens, Untouched}
 use Rattle.py_stream.specs.Writing.{OwesUpTo}
 use Rattle.py_text.specs.declared.coder.Coder.{Coder}
 use Rattle.py_text.specs.declared.text_settings.TextSettings as declared

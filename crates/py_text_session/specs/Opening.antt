@@ -1,5 +1,5 @@
 -- Opening a text over a raw stream.
-use Rattle.std.specs.Prelude.{◌≡◌, ℕ, true, false, IsTrue, IsFalse, List, [], Option, Some, Result, Ok, Err}
+use Rattle.std.specs.Prelude.{◌≡◌, ℕ, true, false, IsTrue, IsFalse, List, [], Some, Result, Ok, Err}
 use Rattle.py_flat.specs.declared.life.Life.TheVariants as life
 use Rattle.py_flat.specs.FlatFile.{Abilities, Buffered}
 use Rattle.py_plain.specs.Units.{Unknown}
