@@ -131,7 +131,7 @@ flush_wants before after (Err fault.NoMemory) answers = answers.wants refl refl
 flush_wants before after (Err other) answers = tt
 flush_wants before after (Ok done) answers = tt
 
-flush_starves : (old : TextView) (after : Buffer) (result : Result (Unit {0}) IoFault) → AnswersAsBuffer old.buffer binary.Flush (done_reply result) after → Starves (over_of old) (done_reply result) (over_of (with_buffer old after))
+flush_starves : (old : TextView) (after : Buffer) (result : Result (Unit {0}) IoFault) → AnswersAsBuffer old.buffer binary.Flush (done_reply result) after → Starves (over_of old) Flush (done_reply result) (over_of (with_buffer old after))
 flush_starves old after (Err fault.NoMemory) answers = inl (record { life_is = answers.moves.life_is; settings = refl; place = refl })
 flush_starves old after (Err other) answers = tt
 flush_starves old after (Ok done) answers = tt
@@ -254,7 +254,7 @@ close_open before after (Err (fault.WouldBlock taken)) live kept answers is = op
 close_open before after (Err fault.NoMemory) live kept answers is = open_of before after live (inl (answers.moves.life_is ∙ live)) (unclosed before after (Refused fault.NoMemory) answers.moves.life_is refl answers)
 close_open before after (Err other) live kept answers is = absurd (answers.answer (accepts_close before live kept))
 
-close_starves : (old : TextView) (after : Buffer) (result : Result (Unit {0}) IoFault) → AnswersAsBuffer old.buffer binary.Close (done_reply result) after → Starves (over_of old) (done_reply result) (over_of (with_buffer old after))
+close_starves : (old : TextView) (after : Buffer) (result : Result (Unit {0}) IoFault) → AnswersAsBuffer old.buffer binary.Close (done_reply result) after → Starves (over_of old) Close (done_reply result) (over_of (with_buffer old after))
 close_starves old after (Err fault.NoMemory) answers = inl (record { life_is = answers.moves.life_is; settings = refl; place = refl })
 close_starves old after (Err other) answers = tt
 close_starves old after (Ok done) answers = tt

@@ -1,5 +1,5 @@
 -- What is owed after one call of a buffer and after two, and that no call but a close closes the raw.
-use Rattle.std.proofs.Common.{◌≡◌, ◌≢◌, ℕ, ◌+◌, ◌≤◌, inl, inr, ◌⊎◌, Bool, true, false, if◌then◌else◌, List, [], ◌++◌, length, take, drop, refl, sym, ap, ◌∙◌, subst, arith, append_assoc, append-nil}
+use Rattle.std.proofs.Common.{◌≡◌, ◌≢◌, ℕ, ◌+◌, ◌≤◌, inl, inr, ◌⊎◌, Bool, true, false, if◌then◌else◌, List, [], ◌∷◌, ◌++◌, length, take, drop, refl, sym, ap, ◌∙◌, subst, arith, append_assoc, append-nil}
 use Rattle.std.proofs.lemmas.List.{length-append, length-drop, length-take-le, drop-append-le, drop-drop, take-append-drop}
 use Rattle.py_flat.specs.declared.life.Life.{Life}
 use Rattle.py_flat.specs.declared.life.Life.TheVariants as life
@@ -11,7 +11,7 @@ use Rattle.py_stream.specs.Writing.{PassesFront, Takes}
 use Rattle.py_stream.specs.Buffer.{Buffer, stream_shown, IsClosedWithRaw}
 use Rattle.py_stream.proofs.Taking.{answers_then}
 use Rattle.py_read_text.specs.Knowing.{TextView, over_of, IsText}
-use Rattle.py_read_text.specs.Owing.{all_owed, IsJoined, PassesOwed, WriteMovesBy, OwesOn, StaysAttached, KeepsOpen}
+use Rattle.py_read_text.specs.Owing.{all_owed, IsJoined, PassesOwed, given_by, WriteMovesBy, OwesOn, HasOwn, StaysAttached, KeepsOpen}
 
 -- What is passed on.
 
@@ -65,6 +65,14 @@ owes_none before call after moves passes = record {
   place = moves;
   passes = subst (λ (all : List ℕ). PassesOwed before.buffer.raw all after.buffer.raw (all_owed after)) (sym (append-nil (all_owed before))) passes;
 }
+
+-- a text that owes bytes itself has some to hand on, whatever the call
+pub has_own : (before : TextOver Buffer) (call : TextFileCall) → before.owed ≢ [] → HasOwn before call
+has_own before call some = by_owed before.owed some (given_by before.settings call)
+  where
+    by_owed : (owed : List ℕ) → owed ≢ [] → (given : List ℕ) → owed ++ given ≢ []
+    by_owed [] some given none = absurd (some refl)
+    by_owed (byte ∷ more) some given none = absurd (cc)
 
 -- Where what is owed stands.
 

@@ -119,7 +119,7 @@ starved_place (Characters None) short before after end whole place = (subst (λ 
 starved_place (Characters (Some size)) short before after end whole place = (subst (λ (own : Bool). PlaceMoves (Read (Some size)) own (Refused fault.NoMemory) before end after) whole place)
 starved_place (Line limit) short before after end whole place = (subst (λ (own : Bool). PlaceMoves (ReadLine limit) own (Refused fault.NoMemory) before end after) whole place)
 
-starves_so : (old new : TextView) (asked : Wanted) (waited short : Bool) (reply : FileReply) → Parts old asked waited short reply new → Starves (over_of old) reply (over_of new)
+starves_so : (old new : TextView) (asked : Wanted) (waited short : Bool) (reply : FileReply) → Parts old asked waited short reply new → Starves (over_of old) (call_of asked) reply (over_of new)
 starves_so old new asked waited short (Refused fault.NoMemory) parts = inl (record { life_is = parts.reads.life_is; settings = parts.settings; place = starved_place asked short (place_of old) (place_of new) new.buffer.place parts.shorts parts.place })
 starves_so old new asked waited short reply parts = tt
 

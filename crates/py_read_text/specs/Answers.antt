@@ -263,8 +263,8 @@ pub record Answers (before : TextState) (call : TextFileCall) (reply : FileReply
   pub joined : IsJoined after.text
   -- no byte is lost and none doubled: what is owed is what was and what the call gave, without what the raw answered for
   pub owes : OwesOn before.text call after.text
-  -- running out of memory fails a text only once bytes of its own went on
-  pub starves : Starves before.text reply after.text
+  -- running out of memory fails a text only in a call that has bytes of its own to hand on, once some went on
+  pub starves : Starves before.text call reply after.text
   -- which replies may come of a call that isn't refused
   pub answer : refusal (file_of before) call ≡ None → IsReplyTo before.text.buffer.can.writable call reply
   -- where no count of the raw rose, a call that isn't refused is answered in full, or ran out of memory

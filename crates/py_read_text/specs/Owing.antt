@@ -68,10 +68,14 @@ own_from text = text.place.at - length text.owed
 abbrev pub stream_from : TextOver Buffer → Stream
 stream_from text = record (stream_shown text.buffer) { place = own_from text }
 
--- bytes that the text owed or was given went on: the buffer took some and stands behind them, or failed once the raw took some, which
--- answered for more than the buffer owed
+-- a call has bytes of the text's own to hand on: some that the text owed, or some that the call gives
+abbrev pub HasOwn : TextOver Buffer → TextFileCall → Type 0
+HasOwn before call = before.owed ++ given_by before.settings call ≢ []
+
+-- bytes of the text's own went on: its buffer took some, so that what is left begins further on; or the buffer failed once the raw took
+-- some, which answered for more than the buffer owed
 abbrev pub GaveOwn : TextOver Buffer → TextOver Buffer → Type 0
-GaveOwn before after = (own_from before < after.buffer.place) ⊎ TookOwn (stream_from before) (stream_shown after.buffer)
+GaveOwn before after = (own_from before < own_from after) ⊎ ((after.buffer.life ≡ life.Failed) × TookOwn (stream_from before) (stream_shown after.buffer))
 
 -- life, settings and place stay
 pub record StaysAsItWas (before after : TextOver Buffer) : Type 0 where
@@ -79,10 +83,11 @@ pub record StaysAsItWas (before after : TextOver Buffer) : Type 0 where
   pub settings : after.settings ≡ before.settings
   pub place : after.place ≡ before.place
 
--- running out of memory fails a text only once bytes of its own went on, and else leaves it as it was
-abbrev pub Starves : TextOver Buffer → FileReply → TextOver Buffer → Type 0
-Starves before (Refused fault.NoMemory) after = StaysAsItWas before after ⊎ ((after.life ≡ life.Failed) × GaveOwn before after)
-Starves before reply after = Unit {0}
+-- running out of memory fails a text only in a call that has bytes of its own to hand on, and only once some of them went on; else it
+-- leaves the text as it was
+abbrev pub Starves : TextOver Buffer → TextFileCall → FileReply → TextOver Buffer → Type 0
+Starves before call (Refused fault.NoMemory) after = StaysAsItWas before after ⊎ ((after.life ≡ life.Failed) × HasOwn before call × GaveOwn before after)
+Starves before call reply after = Unit {0}
 
 -- A wait.
 

@@ -22,7 +22,7 @@ use Rattle.py_read_text.specs.Reading.{call_of, asks_none}
 use Rattle.py_read_text.proofs.Steps.{accepts}
 use Rattle.py_read_text.specs.TextState.{TextState}
 use Rattle.py_read_text.specs.Owing.{all_owed, PassesOwed, given_by, WriteMovesBy, OwesOn, own_from, GaveOwn, Starves, KeepsOpen, Closes}
-use Rattle.py_read_text.proofs.Owing.{passes_then, passes_behind, open_then}
+use Rattle.py_read_text.proofs.Owing.{has_own, passes_then, passes_behind, open_then}
 use Rattle.py_read_text.specs.Ahead.{AsksAsNeeded, starts_at, ReadsNoFurther}
 use Rattle.py_read_text.specs.Answers.{calls_nothing, passes_on, gives_text, LifeMoves, PlaceMoves, WriteMoves, settings_after, IsReplyTo, WantsMemory, closes_again, TextPasses, Answers}
 use Rattle.py_read_text.specs.Knowing.{place_of}
@@ -94,16 +94,19 @@ gave_behind old mid new hands none gave = by_gave gave
 
     by_gave : GaveOwn (over_of mid) new → GaveOwn (over_of old) new
     by_gave (inl further) = inl (omega (arith, further, from))
-    by_gave (inr took) = inr (record {
-      further = omega (arith, took.further, from);
-      stands = λ tells. omega (arith, took.stands (hands.calls.keeps.raw.tells_place ∙ tells), from);
-      answered = λ tells. omega (arith, took.answered (hands.calls.keeps.raw.tells_transfers ∙ tells), hands.owes.answered tells, left);
-    })
+    by_gave (inr took) = inr (
+      took.0,
+      record {
+        further = omega (arith, took.1.further, from);
+        stands = λ tells. omega (arith, took.1.stands (hands.calls.keeps.raw.tells_place ∙ tells), from);
+        answered = λ tells. omega (arith, took.1.answered (hands.calls.keeps.raw.tells_transfers ∙ tells), hands.owes.answered tells, left);
+      },
+    )
 
-starves_behind : (old mid : WrittenView) (reply : FileReply) (new : TextOver Buffer) → HandsOn old false false mid → mid.pending ≡ [] → mid.life ≡ old.life → Starves (over_of mid) reply new → Starves (over_of old) reply new
-starves_behind old mid (Refused fault.NoMemory) new hands none current (inl stays) = inl (record { life_is = stays.life_is ∙ current; settings = stays.settings ∙ hands.settings; place = stays.place ∙ hands.place })
-starves_behind old mid (Refused fault.NoMemory) new hands none current (inr failed) = inr (failed.0, gave_behind old mid new hands none failed.1)
-starves_behind old mid reply new hands none current starves = tt
+starves_behind : (old mid : WrittenView) (call : TextFileCall) (reply : FileReply) (new : TextOver Buffer) → HandsOn old false false mid → old.pending ≢ [] → mid.pending ≡ [] → mid.life ≡ old.life → Starves (over_of mid) call reply new → Starves (over_of old) call reply new
+starves_behind old mid call (Refused fault.NoMemory) new hands owes none current (inl stays) = inl (record { life_is = stays.life_is ∙ current; settings = stays.settings ∙ hands.settings; place = stays.place ∙ hands.place })
+starves_behind old mid call (Refused fault.NoMemory) new hands owes none current (inr failed) = inr (failed.0, has_own (over_of old) call owes, gave_behind old mid new hands none failed.2)
+starves_behind old mid call reply new hands owes none current starves = tt
 
 -- a text doesn't stand before where what it owes its buffer begins
 pub reaches_place : (place : TextPlace) (owed : List ℕ) → place.at ≤ (behind_owed place owed).at
@@ -143,7 +146,7 @@ answers_over old mid call reply new short writes live lives hands none busy owes
       written = written;
       joined = answers.joined;
       owes = owes_behind (over_of old) (over_of mid) (over_of new) call hands.calls.keeps.raw hands.owes hands.settings hands.place answers.owes;
-      starves = starves_behind old mid reply (over_of new) hands none current answers.starves;
+      starves = starves_behind old mid call reply (over_of new) hands owes none current answers.starves;
       closes = closes;
       stays = λ is. open_then old.text.buffer mid.text.buffer new.text.buffer hands.stays (answers.stays is);
       stops = answers.stops;

@@ -81,9 +81,9 @@ shut_refused : (call : TextFileCall) (why : IoFault) (buffer : Buffer) → Close
 shut_refused Close why buffer = λ whole none closed. closed
 shut_refused call why buffer = tt
 
-starves_refused : (text : TextOver Buffer) (why : IoFault) → Starves text (Refused why) text
-starves_refused text fault.NoMemory = inl (record { life_is = refl; settings = refl; place = refl })
-starves_refused text why = tt
+starves_refused : (text : TextOver Buffer) (call : TextFileCall) (why : IoFault) → Starves text call (Refused why) text
+starves_refused text call fault.NoMemory = inl (record { life_is = refl; settings = refl; place = refl })
+starves_refused text call why = tt
 
 closes_refused : (current : Life) (call : TextFileCall) (why : IoFault) (buffer : Buffer) → Closes current call buffer (Refused why) buffer
 closes_refused current Close fault.RawFault buffer = λ was. was
@@ -108,7 +108,7 @@ refused text was call why is own once joined =
       moves = record { settings = settings_refused call why text.text.settings; life_is = life_refused text.text.buffer.can.writable call why text.life own; place = place_refused call why (place_now text) text.text.buffer.place; written = written_refused text.text.settings call why (place_now text) own };
       joined = joined;
       owes = owes_none (over_of text) call (over_of text) (moves_none call (place_now text).at) (passes_none text.text.buffer.raw (all_owed (over_of text)));
-      starves = starves_refused (over_of text) why;
+      starves = starves_refused (over_of text) call why;
       closes = closes_refused text.life call why text.text.buffer;
       stays = λ is. open_still text.text.buffer;
       stops = λ short. absurd (cc);

@@ -30,11 +30,11 @@ use Rattle.py_read_text.specs.Owing.{all_owed, IsJoined, PassesOwed, own_from, s
 use Rattle.py_read_text.specs.Reading.{KeepsPlace}
 use Rattle.py_read_text.specs.Writing.{unit_of, StandsBehind, LeavesFlat, ReturnOutcome}
 use Rattle.py_raw.proofs.Telling.{keeps_same, tells_still}
-use Rattle.py_read_text.proofs.Placing.{accepts_write, flush_flat, flush_place}
+use Rattle.py_read_text.proofs.Placing.{accepts_write, flush_flat}
 use Rattle.py_read_text.proofs.Calling.{all_passed, accepts_flush}
 use Rattle.py_read_text.proofs.Owing.{passes_none, passes_then, passes_behind, front_passes, takes_passed, open_still, open_then, open_of, open_called}
 use Rattle.py_textio.proofs.Over.{calls_on}
-use Rattle.py_textio.specs.Written.{WrittenView, behind_owed, over_of, state_of, CallsBuffer, HandsOn, StandsToWrite, TakesNothing, LetsGo, IsWritten, SettleOutcome, BackOutcome, PassOutcome, HandOutcome, with_taken}
+use Rattle.py_textio.specs.Written.{WrittenView, behind_owed, place_now, over_of, state_of, CallsBuffer, HandsOn, StandsToWrite, TakesNothing, LetsGo, IsWritten, SettleOutcome, BackOutcome, PassOutcome, HandOutcome, with_taken}
 
 -- The place of a text that owes bytes.
 
@@ -177,7 +177,7 @@ settled_so old new (Err fault.NoMemory) live answers takes was stands left write
     alive (inr failed) = inr failed
 
     starved : (new.text.buffer.life ≡ old.text.buffer.life) ⊎ (new.text.buffer.life ≡ life.Failed) → TakesNothing old new ⊎ ((new.life ≡ life.Failed) × (old.text.buffer.can.writable ≡ true) × GaveOwn (over_of old) (over_of new))
-    starved (inr failed) = inr (current ∙ failed, writes, inr (took_from old (stream_shown new.text.buffer) was.1 (answers.starves refl refl failed)))
+    starved (inr failed) = inr (current ∙ failed, writes, inr (failed, took_from old (stream_shown new.text.buffer) was.1 (answers.starves refl refl failed)))
     starved (inl same) =
         let lives_on : new.text.buffer.life ≡ life.Live = same ∙ lives in
         let place : new.text.buffer.place ≡ old.text.buffer.place = subst (λ (own : Life). PlaceStarves own (Some (length old.pending)) old.text.buffer.place new.text.buffer.place) lives_on answers.moves.place in
@@ -423,7 +423,7 @@ passed_failed now old new pending room more count before after flushes fault.NoM
       subst (λ (view : WrittenView). HandsOn view false false (view_of new pending more after)) same (subst (λ (waited : Bool). HandsOn (view_of old pending room before) waited false (view_of new pending more after)) short (hands_flush old new pending room more before after (Refused fault.NoMemory) none is.kept place answers live_buffer (inl (answers.moves.life_is ∙ live_buffer)))),
       failed,
       flushed,
-      flush_place (size_shown old.buffer.buffering) (Err fault.NoMemory) old.buffer.life new.buffer.life old.buffer.place new.buffer.place live_buffer answers.moves.life_is answers.moves.place ∙ ap (λ (view : WrittenView). view.text.buffer.place) same,
+      none,
     )
 passed_failed now old new pending room more count before after flushes other same is live owes flushed place answers calm failed = absurd (answers.answer (accepts_flush old.buffer (is.lives (ap (λ (view : WrittenView). view.life) same ∙ live)) is.kept))
 
@@ -437,32 +437,34 @@ hands_on old mid new waited faulted first second = record {
   stays = open_then old.text.buffer mid.text.buffer new.text.buffer first.stays second.stays;
 }
 
--- what was passed on of a text whose buffer took what it owed, or that owed nothing and has nothing to flush
-pub passed_behind : (old mid new : WrittenView) (count : ℕ) (flushes ends : Bool) (result : Result (Unit {0}) IoFault) → HandsOn old false false mid → PassOutcome mid count flushes result new → (old.text.settings.line_buffering ≡ true → ends ≡ true → flushes ≡ true) → (flushes ≡ true → own_from (over_of old) < mid.text.buffer.place) → HandOutcome old count ends result new
-passed_behind old mid new count flushes ends (Ok done) hands outcome so further = (hands_on old mid new false false hands outcome.0, outcome.1, outcome.2, λ lines is. outcome.3 (so lines is))
-passed_behind old mid new count flushes ends (Err (fault.WouldBlock taken)) hands outcome so further = (hands_on old mid new true false hands outcome.0, outcome.1, outcome.2, outcome.3)
-passed_behind old mid new count flushes ends (Err fault.RawFault) hands outcome so further = (hands_on old mid new false true hands outcome.0, outcome.1)
-passed_behind old mid new count flushes ends (Err fault.NoMemory) hands outcome so further = inl (hands_on old mid new false false hands outcome.0, outcome.1, inl (omega (arith, further outcome.2, outcome.3)))
-passed_behind old mid new count flushes ends (Err other) hands outcome so further = absurd outcome
-
 some_long : (bytes : List ℕ) → bytes ≢ [] → 0 < length bytes
 some_long [] some = absurd (some refl)
 some_long (byte ∷ more) some = omega arith
 
--- where the buffer took all that a text owed it stands behind where that began
-pub took_further : (old mid : WrittenView) → old.pending ≢ [] → SettleOutcome old (Ok tt) mid → IsJoined (over_of mid) → own_from (over_of old) < mid.text.buffer.place
-took_further old mid some outcome joined = omega (arith, own_from_is old, ap (λ (place : TextPlace). place.at) outcome.0.place, ap (λ (place : TextPlace). place.at) (behind_so (place_of old.text) old.pending), joined.behind, ap length outcome.1, some_long old.pending some)
+-- where a text owes nothing itself any more, all that it owed went on
+went_on : (old new : WrittenView) → old.pending ≢ [] → place_now new ≡ place_now old → new.pending ≡ [] → own_from (over_of old) < own_from (over_of new)
+went_on old new some place none = omega (arith, own_from_is old, ap (λ (own : TextPlace). own.at) place, ap (λ (own : TextPlace). own.at) (behind_so (place_of old.text) old.pending), ap length none, some_long old.pending some)
+
+-- what was passed on of a text whose buffer took what it owed, or that owed nothing and has nothing to flush
+pub passed_behind : (old mid new : WrittenView) (count : ℕ) (flushes ends : Bool) (result : Result (Unit {0}) IoFault) → HandsOn old false false mid → PassOutcome mid count flushes result new → (old.text.settings.line_buffering ≡ true → ends ≡ true → flushes ≡ true) → (flushes ≡ true → old.pending ≢ []) → HandOutcome old count ends result new
+passed_behind old mid new count flushes ends (Ok done) hands outcome so some = (hands_on old mid new false false hands outcome.0, outcome.1, outcome.2, λ lines is. outcome.3 (so lines is))
+passed_behind old mid new count flushes ends (Err (fault.WouldBlock taken)) hands outcome so some = (hands_on old mid new true false hands outcome.0, outcome.1, outcome.2, outcome.3)
+passed_behind old mid new count flushes ends (Err fault.RawFault) hands outcome so some = (hands_on old mid new false true hands outcome.0, outcome.1)
+passed_behind old mid new count flushes ends (Err fault.NoMemory) hands outcome so some =
+    let on = hands_on old mid new false false hands outcome.0 in
+    inl (on, outcome.1, some outcome.2, inl (went_on old new (some outcome.2) on.place outcome.3))
+passed_behind old mid new count flushes ends (Err other) hands outcome so some = absurd outcome
 
 -- what is owed couldn't be handed on, and the text isn't as it was
-pub handed_not : (old new : WrittenView) (count : ℕ) (ends : Bool) (why : IoFault) → SettleOutcome old (Err why) new → (why ≡ fault.NoMemory → new.life ≢ life.Live) → HandOutcome old count ends (Err (with_taken why count)) new
-handed_not old new count ends (fault.WouldBlock taken) outcome failed = (outcome.0, outcome.2, refl, record { full = λ some. outcome.4; some = λ gives own. absurd (outcome.1 own) })
-handed_not old new count ends fault.RawFault outcome failed = (outcome.0, outcome.1)
-handed_not old new count ends fault.NoMemory outcome failed = by_life outcome.2
+pub handed_not : (old new : WrittenView) (count : ℕ) (ends : Bool) (why : IoFault) → old.pending ≢ [] → SettleOutcome old (Err why) new → (why ≡ fault.NoMemory → new.life ≢ life.Live) → HandOutcome old count ends (Err (with_taken why count)) new
+handed_not old new count ends (fault.WouldBlock taken) some outcome failed = (outcome.0, outcome.2, refl, record { full = λ left. outcome.4; some = λ gives own. absurd (outcome.1 own) })
+handed_not old new count ends fault.RawFault some outcome failed = (outcome.0, outcome.1)
+handed_not old new count ends fault.NoMemory some outcome failed = by_life outcome.2
   where
     by_life : TakesNothing old new ⊎ ((new.life ≡ life.Failed) × (old.text.buffer.can.writable ≡ true) × GaveOwn (over_of old) (over_of new)) → HandOutcome old count ends (Err fault.NoMemory) new
     by_life (inl nothing) = absurd (failed refl nothing.lives)
-    by_life (inr gave) = inl (outcome.0, gave.0, gave.2)
-handed_not old new count ends other outcome failed = absurd outcome
+    by_life (inr gave) = inl (outcome.0, gave.0, some, gave.2)
+handed_not old new count ends other some outcome failed = absurd outcome
 
 -- the buffer took nothing for want of memory, and the last bytes are let go of
 pub lets_go : (old mid new : WrittenView) (count room : ℕ) → SettleOutcome old (Err fault.NoMemory) mid → mid.life ≡ life.Live → new ≡ record mid { pending = take (length mid.pending - count) mid.pending; room = room } → LetsGo old count new

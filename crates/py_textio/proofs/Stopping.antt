@@ -17,7 +17,7 @@ use Rattle.py_held_text.specs.declared.wanted.Wanted.{Wanted}
 use Rattle.py_held_text.specs.declared.wanted.Wanted.TheVariants.{Characters, Line}
 use Rattle.py_read_text.specs.Owing.{IsJoined, WriteMovesBy, GaveOwn, Starves, KeepsOpen, Closes}
 use Rattle.py_read_text.proofs.Calling.{Passing, faulted_life, passes_accepted, fails_still, wait_step, fault_step, starve_step}
-use Rattle.py_read_text.proofs.Owing.{owes_none}
+use Rattle.py_read_text.proofs.Owing.{owes_none, has_own}
 use Rattle.py_read_text.specs.Knowing.{place_of}
 use Rattle.py_read_text.specs.Answers.{calls_nothing, passes_on, gives_text, IsReplyTo, IsComplete, IsShort, PlaceMoves, WriteMoves, LifeMoves, settings_after, closes_again, WantsMemory, TextPasses, TextKeeps, Answers}
 use Rattle.py_read_text.specs.Reading.{call_of, asks_none}
@@ -56,7 +56,7 @@ busy_so : (owed : List ℕ) (call : TextFileCall) → owed ≢ [] → passes_on 
 busy_so [] call some = absurd (some refl)
 busy_so (byte ∷ more) call some = grind arith
 
-pub ends_work : (old : WrittenView) (call : TextFileCall) (reply : FileReply) (new : WrittenView) (short : Bool) → Owes old → Ends call reply short → refusal (file_now old) call ≡ None → HandsOn old short (says_fault reply) new → (gives_text call ≡ true → new.text.at ≡ new.text.buffer.place) → (IsTrue short → (new.pending ≢ []) × IsStuffed new.text.buffer) → LifeMoves true call reply old.life new.life → IsJoined (over_of new) → Starves (over_of old) reply (over_of new) → WantsMemory call reply old.text.buffer → WhereShown old.text.buffer (TextFileStep (file_now old) call reply short (says_fault reply) (file_now new)) → Works old call reply new short
+pub ends_work : (old : WrittenView) (call : TextFileCall) (reply : FileReply) (new : WrittenView) (short : Bool) → Owes old → Ends call reply short → refusal (file_now old) call ≡ None → HandsOn old short (says_fault reply) new → (gives_text call ≡ true → new.text.at ≡ new.text.buffer.place) → (IsTrue short → (new.pending ≢ []) × IsStuffed new.text.buffer) → LifeMoves true call reply old.life new.life → IsJoined (over_of new) → Starves (over_of old) call reply (over_of new) → WantsMemory call reply old.text.buffer → WhereShown old.text.buffer (TextFileStep (file_now old) call reply short (says_fault reply) (file_now new)) → Works old call reply new short
 ends_work old call reply new short owes ends accepted hands there left current joined starves wants told = record {
   accepted = accepted;
   once = ap (λ (own : Life). closes_again own call) owes.live ∙ ends.once;
@@ -92,8 +92,8 @@ ends_work old call reply new short owes ends accepted hands there left current j
     by_short false false is fails calm sound = ends.calm is fails
 
 -- running out of memory left a live text as it was
-starved_not : (old new : WrittenView) → HandsOn old false false new → new.life ≡ old.life → Starves (over_of old) (Refused fault.NoMemory) (over_of new)
-starved_not old new hands current = inl (record { life_is = current; settings = hands.settings; place = hands.place })
+starved_not : (old new : WrittenView) (call : TextFileCall) → HandsOn old false false new → new.life ≡ old.life → Starves (over_of old) call (Refused fault.NoMemory) (over_of new)
+starved_not old new call hands current = inl (record { life_is = current; settings = hands.settings; place = hands.place })
 
 -- Readings.
 
@@ -145,10 +145,10 @@ read_fails old new asked owes can some hands there failed joined =
 pub read_starves : (old new : WrittenView) (asked : Wanted) → Owes old → old.text.buffer.can.readable ≡ true → asks_none asked ≡ false → HandsOn old false false new → new.text.at ≡ new.text.buffer.place → (new.life ≡ life.Live) ⊎ ((new.life ≡ life.Failed) × GaveOwn (over_of old) (over_of new)) → IsJoined (over_of new) → Answers (state_of old false) (call_of asked) (Refused fault.NoMemory) (state_of new false)
 read_starves old new asked owes can some hands there (inl lives) joined =
     let current : new.life ≡ old.life = lives ∙ sym owes.live in
-    answers_work old (call_of asked) (Refused fault.NoMemory) new false (ends_work old (call_of asked) (Refused fault.NoMemory) new false owes (memory_ends asked some) (accepts (file_now old) asked owes.live can) hands (λ gives. there) (λ is. absurd (cc)) (inl current) joined (starved_not old new hands current) (wants_nothing asked (Refused fault.NoMemory) old.text.buffer)
+    answers_work old (call_of asked) (Refused fault.NoMemory) new false (ends_work old (call_of asked) (Refused fault.NoMemory) new false owes (memory_ends asked some) (accepts (file_now old) asked owes.live can) hands (λ gives. there) (λ is. absurd (cc)) (inl current) joined (starved_not old new (call_of asked) hands current) (wants_nothing asked (Refused fault.NoMemory) old.text.buffer)
     (λ told. starves_step (file_now old) (file_now new) asked owes.live can (handed_file old new false false hands current told)))
 read_starves old new asked owes can some hands there (inr failed) joined =
-    answers_work old (call_of asked) (Refused fault.NoMemory) new false (ends_work old (call_of asked) (Refused fault.NoMemory) new false owes (memory_ends asked some) (accepts (file_now old) asked owes.live can) hands (λ gives. there) (λ is. absurd (cc)) (inr (refl, failed.0)) joined (inr failed) (wants_nothing asked (Refused fault.NoMemory) old.text.buffer)
+    answers_work old (call_of asked) (Refused fault.NoMemory) new false (ends_work old (call_of asked) (Refused fault.NoMemory) new false owes (memory_ends asked some) (accepts (file_now old) asked owes.live can) hands (λ gives. there) (λ is. absurd (cc)) (inr (refl, failed.0)) joined (inr (failed.0, has_own (over_of old) (call_of asked) owes.some, failed.1)) (wants_nothing asked (Refused fault.NoMemory) old.text.buffer)
     (λ told. midway_read (file_now old) (file_now new) asked owes.live can owes.writes (fails_still (file_now old) (file_now new) life.Failed failed.0 (hands.bytes told) hands.calls.keeps.can hands.settings)))
 
 -- Flushing and closing.
@@ -203,10 +203,10 @@ passing_failed old new closes owes hands failed joined =
 pub passing_starved : (old new : WrittenView) (closes : Bool) → Owes old → HandsOn old false false new → IsTrue old.text.buffer.raw.takes_memory → (new.life ≡ life.Live) ⊎ ((new.life ≡ life.Failed) × GaveOwn (over_of old) (over_of new)) → IsJoined (over_of new) → Answers (state_of old false) (Passing closes) (Refused fault.NoMemory) (state_of new false)
 passing_starved old new closes owes hands takes (inl lives) joined =
     let current : new.life ≡ old.life = lives ∙ sym owes.live in
-    answers_work old (Passing closes) (Refused fault.NoMemory) new false (ends_work old (Passing closes) (Refused fault.NoMemory) new false owes (passing_starves closes) (passes_accepted (file_now old) closes owes.live) hands (λ gives. passing_gives closes gives) (λ is. absurd (cc)) (inl current) joined (starved_not old new hands current) (wants_raw closes old.text.buffer takes)
+    answers_work old (Passing closes) (Refused fault.NoMemory) new false (ends_work old (Passing closes) (Refused fault.NoMemory) new false owes (passing_starves closes) (passes_accepted (file_now old) closes owes.live) hands (λ gives. passing_gives closes gives) (λ is. absurd (cc)) (inl current) joined (starved_not old new (Passing closes) hands current) (wants_raw closes old.text.buffer takes)
     (λ told. starve_step (file_now old) (file_now new) closes owes.live (inl (handed_file old new false false hands current told))))
 passing_starved old new closes owes hands takes (inr failed) joined =
-    answers_work old (Passing closes) (Refused fault.NoMemory) new false (ends_work old (Passing closes) (Refused fault.NoMemory) new false owes (passing_starves closes) (passes_accepted (file_now old) closes owes.live) hands (λ gives. passing_gives closes gives) (λ is. absurd (cc)) (inr (refl, failed.0)) joined (inr failed) (wants_raw closes old.text.buffer takes)
+    answers_work old (Passing closes) (Refused fault.NoMemory) new false (ends_work old (Passing closes) (Refused fault.NoMemory) new false owes (passing_starves closes) (passes_accepted (file_now old) closes owes.live) hands (λ gives. passing_gives closes gives) (λ is. absurd (cc)) (inr (refl, failed.0)) joined (inr (failed.0, has_own (over_of old) (Passing closes) owes.some, failed.1)) (wants_raw closes old.text.buffer takes)
     (λ told. starve_step (file_now old) (file_now new) closes owes.live (inr (owes.writes, fails_still (file_now old) (file_now new) life.Failed failed.0 (hands.bytes told) hands.calls.keeps.can hands.settings))))
 
 -- By what stopped the handing on.

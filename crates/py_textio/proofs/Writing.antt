@@ -28,7 +28,7 @@ use Rattle.py_stream.specs.Kinds.{says_wait}
 use Rattle.py_stream.specs.Buffer.{Buffer, WhereShown, flat_of}
 use Rattle.py_read_text.specs.Knowing.{place_of}
 use Rattle.py_read_text.proofs.Placing.{not_far}
-use Rattle.py_read_text.specs.Owing.{all_owed, IsJoined, PassesOwed, OwesOn, own_from, GaveOwn, StopsOwing}
+use Rattle.py_read_text.specs.Owing.{all_owed, IsJoined, PassesOwed, OwesOn, own_from, HasOwn, GaveOwn, StopsOwing}
 use Rattle.py_read_text.proofs.Owing.{passes_then, passes_behind, owes_none, open_then}
 use Rattle.py_read_text.specs.Answers.{further, IsPassedOn, KeepsFew, has_line_end, Answers}
 use Rattle.py_textio.specs.Written.{WrittenView, behind_owed, place_now, over_of, state_of, file_now, HandsOn, TookText, GoesBack, BackOutcome, LetsGo, HandOutcome}
@@ -200,8 +200,8 @@ wrote_failed old new text may took failed joined =
     whole_fails : (old new : WrittenView) (bytes : List ℕ) (current : Life) → new.life ≡ current → (file_now new).bytes ≡ lay (file_now old).bytes (place_now old).at bytes → new.text.buffer.can ≡ old.text.buffer.can → new.text.settings ≡ old.text.settings → Fails (file_now old) current (lay (file_now old).bytes (place_now old).at (take (length bytes) bytes)) (file_now new)
     whole_fails old new bytes current is laid can settings = record { life_is = is; bytes_are = laid ∙ ap (lay (file_now old).bytes (place_now old).at) (sym (take_all (length bytes) bytes (omega arith))); can = can; settings = settings }
 
-pub wrote_starved : (old new : WrittenView) (text : List ℕ) → MayWrite old text → TookText old (own_bytes old text) false false new → new.life ≡ life.Failed → GaveOwn (over_of old) (over_of new) → IsJoined (over_of new) → Answers (state_of old false) (WriteText text) (Refused fault.NoMemory) (state_of new false)
-wrote_starved old new text may took failed gave joined =
+pub wrote_starved : (old new : WrittenView) (text : List ℕ) → MayWrite old text → TookText old (own_bytes old text) false false new → new.life ≡ life.Failed → HasOwn (over_of old) (WriteText text) → GaveOwn (over_of old) (over_of new) → IsJoined (over_of new) → Answers (state_of old false) (WriteText text) (Refused fault.NoMemory) (state_of new false)
+wrote_starved old new text may took failed has gave joined =
     let bytes : List ℕ = own_bytes old text in
     answers_work old (WriteText text) (Refused fault.NoMemory) new false (record {
       accepted = may.accepted;
@@ -217,7 +217,7 @@ wrote_starved old new text may took failed gave joined =
       written = inr took.place;
       joined = joined;
       owes = owes_took old new text false false took;
-      starves = inr (failed, gave);
+      starves = inr (failed, has, gave);
       closes = tt;
       stays = λ is. took.stays;
       stops = λ short. absurd (cc);
@@ -403,11 +403,14 @@ gave_put old mid bytes room new back gave = by_gave gave
 
     by_gave : GaveOwn (over_of (with_bytes mid bytes room)) new → GaveOwn (over_of old) new
     by_gave (inl further) = inl (omega (arith, further, from))
-    by_gave (inr took) = inr (record {
-      further = omega (arith, took.further, from);
-      stands = λ tells. omega (arith, took.stands (back.hands.calls.keeps.raw.tells_place ∙ tells), from);
-      answered = λ tells. omega (arith, took.answered (back.hands.calls.keeps.raw.tells_transfers ∙ tells), back.answered tells, ap length back.owed);
-    })
+    by_gave (inr took) = inr (
+      took.0,
+      record {
+        further = omega (arith, took.1.further, from);
+        stands = λ tells. omega (arith, took.1.stands (back.hands.calls.keeps.raw.tells_place ∙ tells), from);
+        answered = λ tells. omega (arith, took.1.answered (back.hands.calls.keeps.raw.tells_transfers ∙ tells), back.answered tells, ap length back.owed);
+      },
+    )
 
 pub written_on : (old mid new : WrittenView) (text : List ℕ) (room count : ℕ) (why : IoFault) → MayWrite old text → GoesBack old mid → count ≡ length (own_bytes old text) → HandOutcome (with_bytes mid (own_bytes old text) room) count (has_line_end text) (Err why) new → IsJoined (over_of new) → Answers (state_of old false) (WriteText text) (Refused why) (state_of new (says_wait (Refused why)))
 written_on old mid new text room count (fault.WouldBlock taken) may back counts outcome joined =
@@ -415,7 +418,7 @@ written_on old mid new text room count (fault.WouldBlock taken) may back counts 
 written_on old mid new text room count fault.RawFault may back counts outcome joined =
     wrote_failed old new text may (took_then old (with_bytes mid (own_bytes old text) room) new (own_bytes old text) false true (put_bytes old mid (own_bytes old text) room back) outcome.0) outcome.1 joined
 written_on old mid new text room count fault.NoMemory may back counts (inl outcome) joined =
-    wrote_starved old new text may (took_then old (with_bytes mid (own_bytes old text) room) new (own_bytes old text) false false (put_bytes old mid (own_bytes old text) room back) outcome.0) outcome.1 (gave_put old mid (own_bytes old text) room (over_of new) back outcome.2) joined
+    wrote_starved old new text may (took_then old (with_bytes mid (own_bytes old text) room) new (own_bytes old text) false false (put_bytes old mid (own_bytes old text) room back) outcome.0) outcome.1 (λ none. outcome.2 (ap (λ (owed : List ℕ). owed ++ own_bytes old text) back.pending ∙ none)) (gave_put old mid (own_bytes old text) room (over_of new) back outcome.3) joined
 written_on old mid new text room count fault.NoMemory may back counts (inr lets) joined =
     unwritten_starved old new text may (let_go_so old mid new (own_bytes old text) room count back counts lets) lets.lives joined
 written_on old mid new text room count other may back counts outcome joined = absurd outcome

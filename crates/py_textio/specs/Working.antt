@@ -30,7 +30,7 @@ pub record Works (old : WrittenView) (call : TextFileCall) (reply : FileReply) (
   pub joined : IsJoined (over_of new)
   -- what became of the bytes that were owed, and of the raw
   pub owes : OwesOn (over_of old) call (over_of new)
-  pub starves : Starves (over_of old) reply (over_of new)
+  pub starves : Starves (over_of old) call reply (over_of new)
   pub closes : Closes old.life call old.text.buffer reply new.text.buffer
   pub stays : may_close call reply ≡ false → KeepsOpen old.text.buffer new.text.buffer
   pub stops : IsTrue short → StopsOwing (gives_text call) (over_of new)

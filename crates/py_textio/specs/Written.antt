@@ -165,12 +165,12 @@ pub record LetsGo (old : WrittenView) (count : ℕ) (new : WrittenView) : Type 0
   pub stays : KeepsOpen old.text.buffer new.text.buffer
 
 -- the buffer passed on all, where it was to; or the raw would have blocked, which counts all n bytes as taken; or it failed, or memory ran
--- out, which fails the text
+-- out, which fails the text, that owes nothing itself then
 abbrev pub PassOutcome : WrittenView → (count : ℕ) → (flushes : Bool) → Result (Unit {0}) IoFault → WrittenView → Type 0
 PassOutcome old count flushes (Ok done) new = HandsOn old false false new × (new.life ≡ life.Live) × KeepsFew (state_of new false) × (flushes ≡ true → IsPassedOn (state_of new false))
 PassOutcome old count flushes (Err (fault.WouldBlock taken)) new = HandsOn old true false new × (new.life ≡ life.Live) × (taken ≡ count) × StopsOwing false (over_of new)
 PassOutcome old count flushes (Err fault.RawFault) new = HandsOn old false true new × (new.life ≡ life.Failed)
-PassOutcome old count flushes (Err fault.NoMemory) new = HandsOn old false false new × (new.life ≡ life.Failed) × (flushes ≡ true) × (new.text.buffer.place ≡ old.text.buffer.place)
+PassOutcome old count flushes (Err fault.NoMemory) new = HandsOn old false false new × (new.life ≡ life.Failed) × (flushes ≡ true) × (new.pending ≡ [])
 PassOutcome old count flushes (Err other) new = ⊥
 
 -- what is owed is handed on where it has to be, and with line buffering behind a line end passed on by the buffer; where memory ran out the
@@ -179,5 +179,5 @@ abbrev pub HandOutcome : WrittenView → (count : ℕ) → (ends : Bool) → Res
 HandOutcome old count ends (Ok done) new = HandsOn old false false new × (new.life ≡ life.Live) × KeepsFew (state_of new false) × (old.text.settings.line_buffering ≡ true → ends ≡ true → IsPassedOn (state_of new false))
 HandOutcome old count ends (Err (fault.WouldBlock taken)) new = HandsOn old true false new × (new.life ≡ life.Live) × (taken ≡ count) × StopsOwing false (over_of new)
 HandOutcome old count ends (Err fault.RawFault) new = HandsOn old false true new × (new.life ≡ life.Failed)
-HandOutcome old count ends (Err fault.NoMemory) new = (HandsOn old false false new × (new.life ≡ life.Failed) × GaveOwn (over_of old) (over_of new)) ⊎ LetsGo old count new
+HandOutcome old count ends (Err fault.NoMemory) new = (HandsOn old false false new × (new.life ≡ life.Failed) × (old.pending ≢ []) × GaveOwn (over_of old) (over_of new)) ⊎ LetsGo old count new
 HandOutcome old count ends (Err other) new = ⊥
