@@ -1,5 +1,5 @@
 -- A flush and a close of a text that owes nothing itself, from what its buffer answered.
-use Rattle.std.proofs.Common.{◌≡◌, ℕ, inl, inr, ◌⊎◌, ◌&&◌, Bool, true, false, IsTrue, List, [], ◌∷◌, Option, None, Result, Ok, Err, refl, sym, ap, ◌∙◌, subst, arith}
+use Rattle.std.proofs.Common.{◌≡◌, ℕ, inl, inr, ◌⊎◌, ◌&&◌, Bool, true, false, IsTrue, List, [], ◌∷◌, ◌++◌, Option, None, Result, Ok, Err, refl, sym, ap, ◌∙◌, subst, arith}
 use Rattle.py_flat.specs.declared.fault.IoFault.{IoFault}
 use Rattle.py_flat.specs.declared.fault.IoFault.TheVariants as fault
 use Rattle.py_flat.specs.declared.life.Life.{Life}
@@ -185,6 +185,7 @@ flush_so old after result live is answers =
       wants = flush_wants old.buffer after result answers;
       closes = tt;
       stays = λ not. open_of old.buffer after live (flushed_life (size_shown old.buffer.buffering) result old.buffer.life after.life live answers.moves.life_is) (answers.stays refl);
+      unclosed = λ some closed. answers.stays refl closed;
       shut = λ own. tt;
       spares = λ can none. let spared = answers.spares can none in record { bytes = spared.bytes; written = spared.written; owed = spared.owed };
       tied = record { owed = λ can. refl; life_is = λ can was. refl };
@@ -313,6 +314,7 @@ close_so old after result live is answers =
       wants = close_wants old.buffer after result answers;
       closes = close_closes old.buffer after result live answers;
       stays = close_open old.buffer after result live is.kept answers;
+      unclosed = λ some closed. answers.unclosed (λ none. some (ap (λ (bytes : List ℕ). bytes ++ []) none));
       shut = λ own. answers.shut;
       spares = λ can none. let spared = answers.spares can none in record { bytes = spared.bytes; written = spared.written; owed = spared.owed };
       tied = record { owed = λ can. refl; life_is = λ can was. refl };

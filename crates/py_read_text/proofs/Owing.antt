@@ -11,7 +11,7 @@ use Rattle.py_stream.specs.Writing.{PassesFront, Takes}
 use Rattle.py_stream.specs.Buffer.{Buffer, stream_shown, IsClosedWithRaw}
 use Rattle.py_stream.proofs.Taking.{answers_then}
 use Rattle.py_read_text.specs.Knowing.{TextView, over_of, IsText}
-use Rattle.py_read_text.specs.Owing.{all_owed, IsJoined, PassesOwed, given_by, WriteMovesBy, OwesOn, HasOwn, StaysAttached, KeepsOpen}
+use Rattle.py_read_text.specs.Owing.{all_owed, IsJoined, PassesOwed, given_by, WriteMovesBy, OwesOn, HasOwn, StaysAttached, KeepsOpen, StaysWhileOwing}
 
 -- What is passed on.
 
@@ -96,6 +96,15 @@ open_then before mid after first second = record {
       let other = second.stays one.1 in
       (other.0 ∙ one.0, other.1);
 }
+
+-- a raw that stays open does so while bytes are owed
+pub owing_open : (before : Buffer) (after : TextOver Buffer) → KeepsOpen before after.buffer → StaysWhileOwing before after
+owing_open before after kept = λ owes closed. (kept.stays closed).0
+
+pub owing_then : (before mid : Buffer) (after : TextOver Buffer) → KeepsOpen before mid → StaysWhileOwing mid after → StaysWhileOwing before after
+owing_then before mid after first second = λ owes closed.
+    let one = first.stays closed in
+    second owes one.1 ∙ one.0
 
 -- a buffer of which the life is known isn't detached
 pub attached_in : (before after : Buffer) (current : Life) → after.life ≡ current → current ≢ life.Detached → StaysAttached before after

@@ -162,6 +162,7 @@ answers old new asked waited short reply live can parts =
       starves = starves_so old new asked waited short reply parts;
       closes = (never_closes asked old.buffer.life old.buffer new.buffer reply).1;
       stays = λ is. open_called old.buffer new.buffer (says_fault reply) live parts.reads.life_is parts.reads.stays;
+      unclosed = λ some closed. parts.reads.stays closed;
       shut = λ own. (never_closes asked old.buffer.life old.buffer new.buffer reply).0;
       spares = parts.reads.spares;
       tied = record { owed = λ can. refl; life_is = λ can was. refl };

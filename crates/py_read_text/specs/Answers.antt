@@ -26,7 +26,7 @@ use Rattle.py_stream.specs.Buffer.{Buffer, WhereShown, KeepsBuffer, IsClosedWith
 use Rattle.py_read_text.specs.TextState.{TextState, file_of}
 use Rattle.py_read_text.specs.Waiting.{ShowsAll}
 use Rattle.py_read_text.specs.Ahead.{ReadsNoFurther}
-use Rattle.py_read_text.specs.Owing.{IsJoined, OwesOn, Starves, StopsOwing, KeepsOpen, may_close, Closes}
+use Rattle.py_read_text.specs.Owing.{IsJoined, OwesOn, Starves, StopsOwing, KeepsOpen, StaysWhileOwing, may_close, Closes}
 
 -- what the answer of a reading says, in the model's words
 abbrev pub text_reply : Result (Option (String Global)) IoFault → FileReply
@@ -275,6 +275,8 @@ pub record Answers (before : TextState) (call : TextFileCall) (reply : FileReply
   pub closes : Closes before.text.life call before.text.buffer reply after.text.buffer
   -- nothing else closes the raw, and no call hands it back
   pub stays : may_close call reply ≡ false → KeepsOpen before.text.buffer after.text.buffer
+  -- nor does a call close it that leaves bytes owed, whatever it answers
+  pub unclosed : StaysWhileOwing before.text.buffer after.text
   -- a close of a text that itself owed nothing leaves the raw closed where the buffer is
   pub shut : before.text.owed ≡ [] → ClosesWithRaw call before.text.buffer reply after.text.buffer
   -- a buffer that doesn't write leaves the raw's bytes, and owes nothing

@@ -114,6 +114,10 @@ pub record KeepsOpen (before after : Buffer) : Type 0 where
   pub attached : StaysAttached before after
   pub stays : IsClosedWithRaw before → StaysOpen before.raw after.raw × IsClosedWithRaw after
 
+-- while bytes are owed, by the buffer or by the text itself, a raw that is closed exactly where the buffer is isn't closed
+abbrev pub StaysWhileOwing : Buffer → TextOver Buffer → Type 0
+StaysWhileOwing before after = all_owed after ≢ [] → IsClosedWithRaw before → StaysOpen before.raw after.buffer.raw
+
 -- a close of a live text that is done closes its buffer, and the raw with it; where the raw failed it isn't handed back
 abbrev pub Closes : Life → TextFileCall → Buffer → FileReply → Buffer → Type 0
 Closes current Close before Done after = current ≡ life.Live → (after.life ≡ life.Closed) × (IsClosedWithRaw before → IsTrue after.raw.closed)

@@ -83,6 +83,7 @@ none_answers (Characters size) old was live can none joined = record {
   starves = tt;
   closes = tt;
   stays = λ is. open_still old.text.buffer;
+  unclosed = λ some closed. refl;
   stops = λ short. absurd (cc);
   answer = λ accepts. tt;
   complete = λ accepts calm sound. record { answer = tt; whole = refl };
@@ -111,6 +112,7 @@ none_answers (Line limit) old was live can none joined = record {
   starves = tt;
   closes = tt;
   stays = λ is. open_still old.text.buffer;
+  unclosed = λ some closed. refl;
   stops = λ short. absurd (cc);
   answer = λ accepts. tt;
   complete = λ accepts calm sound. record { answer = tt; whole = refl };

@@ -22,7 +22,7 @@ use Rattle.py_read_text.specs.Reading.{call_of, asks_none}
 use Rattle.py_read_text.proofs.Steps.{accepts}
 use Rattle.py_read_text.specs.TextState.{TextState}
 use Rattle.py_read_text.specs.Owing.{all_owed, PassesOwed, given_by, WriteMovesBy, OwesOn, own_from, GaveOwn, Starves, KeepsOpen, Closes}
-use Rattle.py_read_text.proofs.Owing.{has_own, passes_then, passes_behind, open_then}
+use Rattle.py_read_text.proofs.Owing.{has_own, passes_then, passes_behind, open_then, owing_then}
 use Rattle.py_read_text.specs.Ahead.{AsksAsNeeded, starts_at, ReadsNoFurther}
 use Rattle.py_read_text.specs.Answers.{calls_nothing, passes_on, gives_text, LifeMoves, PlaceMoves, WriteMoves, settings_after, IsReplyTo, WantsMemory, closes_again, TextPasses, Answers}
 use Rattle.py_read_text.specs.Knowing.{place_of}
@@ -149,6 +149,7 @@ answers_over old mid call reply new short writes live lives hands none busy owes
       starves = starves_behind old mid call reply (over_of new) hands owes none current answers.starves;
       closes = closes;
       stays = λ is. open_then old.text.buffer mid.text.buffer new.text.buffer hands.stays (answers.stays is);
+      unclosed = owing_then old.text.buffer mid.text.buffer (over_of new) hands.stays answers.unclosed;
       stops = answers.stops;
       answer = subst (λ (own : Bool). IsReplyTo own call reply) mid_writes (answers.answer still);
       complete = λ calm sound. answers.complete still

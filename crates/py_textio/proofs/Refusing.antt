@@ -111,6 +111,7 @@ refused text was call why is own once joined =
       starves = starves_refused (over_of text) call why;
       closes = closes_refused text.life call why text.text.buffer;
       stays = λ is. open_still text.text.buffer;
+      unclosed = λ some closed. refl;
       stops = λ short. absurd (cc);
       answer = λ accepts. let never = sym is ∙ accepts in absurd (cc);
       complete = λ accepts calm sound. let never = sym is ∙ accepts in absurd (cc);
@@ -234,6 +235,7 @@ closed_again now text was same is joined =
       starves = tt;
       closes = λ live. let never : life.Closed ≡ life.Live = sym is ∙ live in absurd (cc);
       stays = λ not. absurd (cc);
+      unclosed = λ some closed. refl;
       stops = λ short. absurd (cc);
       answer = λ accepts. tt;
       complete = λ accepts calm sound. record { answer = tt; whole = refl };
@@ -304,6 +306,7 @@ chunks_so now text new was size same live some joined is =
       starves = tt;
       closes = tt;
       stays = λ is. open_still text.text.buffer;
+      unclosed = λ some closed. refl;
       stops = λ short. absurd (cc);
       answer = λ accepts. refl;
       complete = λ accepts calm sound. record { answer = refl; whole = refl };
@@ -378,6 +381,7 @@ over_short now text was call reply after same passes answers = subst (λ (before
   wants = answers.wants;
   closes = answers.closes;
   stays = answers.stays;
+  unclosed = answers.unclosed;
   shut = answers.shut;
   spares = answers.spares;
   tied = record { owed = answers.tied.owed; life_is = answers.tied.life_is };

@@ -17,7 +17,7 @@ use Rattle.py_held_text.specs.declared.wanted.Wanted.{Wanted}
 use Rattle.py_held_text.specs.declared.wanted.Wanted.TheVariants.{Characters, Line}
 use Rattle.py_read_text.specs.Owing.{IsJoined, WriteMovesBy, GaveOwn, Starves, KeepsOpen, Closes}
 use Rattle.py_read_text.proofs.Calling.{Passing, faulted_life, passes_accepted, fails_still, wait_step, fault_step, starve_step}
-use Rattle.py_read_text.proofs.Owing.{owes_none, has_own}
+use Rattle.py_read_text.proofs.Owing.{owes_none, has_own, owing_open}
 use Rattle.py_read_text.specs.Knowing.{place_of}
 use Rattle.py_read_text.specs.Answers.{calls_nothing, passes_on, gives_text, IsReplyTo, IsComplete, IsShort, PlaceMoves, WriteMoves, LifeMoves, settings_after, closes_again, WantsMemory, TextPasses, TextKeeps, Answers}
 use Rattle.py_read_text.specs.Reading.{call_of, asks_none}
@@ -74,6 +74,7 @@ ends_work old call reply new short owes ends accepted hands there left current j
   starves = starves;
   closes = ends.closes old.life old.text.buffer new.text.buffer hands.stays;
   stays = λ is. hands.stays;
+  unclosed = owing_open old.text.buffer (over_of new) hands.stays;
   stops = λ is. record { full = λ some. (left is).1; some = λ gives none. absurd ((left is).0 none) };
   answer = ends.answer;
   complete = λ calm sound. by_short short (says_fault reply) refl refl calm sound;

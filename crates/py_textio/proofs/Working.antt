@@ -26,6 +26,7 @@ answers_work old call reply new short works = record {
   starves = works.starves;
   closes = works.closes;
   stays = works.stays;
+  unclosed = works.unclosed;
   stops = works.stops;
   answer = λ accepts. subst (λ (writes : Bool). IsReplyTo writes call reply) (sym works.writes) works.answer;
   complete = λ accepts calm sound. works.complete calm sound;

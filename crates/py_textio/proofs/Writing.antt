@@ -29,7 +29,7 @@ use Rattle.py_stream.specs.Buffer.{Buffer, WhereShown, flat_of}
 use Rattle.py_read_text.specs.Knowing.{place_of}
 use Rattle.py_read_text.proofs.Placing.{not_far}
 use Rattle.py_read_text.specs.Owing.{all_owed, IsJoined, PassesOwed, OwesOn, own_from, HasOwn, GaveOwn, StopsOwing}
-use Rattle.py_read_text.proofs.Owing.{passes_then, passes_behind, owes_none, open_then}
+use Rattle.py_read_text.proofs.Owing.{passes_then, passes_behind, owes_none, open_then, owing_open}
 use Rattle.py_read_text.specs.Answers.{further, IsPassedOn, KeepsFew, has_line_end, Answers}
 use Rattle.py_textio.specs.Written.{WrittenView, behind_owed, place_now, over_of, state_of, file_now, HandsOn, TookText, GoesBack, BackOutcome, LetsGo, HandOutcome}
 use Rattle.py_textio.proofs.Ended.{ended-some}
@@ -121,6 +121,7 @@ wrote old new text count may took lives joined counts few passed =
       starves = tt;
       closes = tt;
       stays = λ is. took.stays;
+      unclosed = owing_open old.text.buffer (over_of new) took.stays;
       stops = λ short. absurd (cc);
       answer = counts;
       complete = λ calm sound. record { answer = counts; whole = refl };
@@ -153,6 +154,7 @@ wrote_blocked old new text taken may took lives joined counts stops =
       starves = tt;
       closes = tt;
       stays = λ is. took.stays;
+      unclosed = owing_open old.text.buffer (over_of new) took.stays;
       stops = λ short. stops;
       answer = refl;
       complete = λ calm sound. absurd (not_rose old.text.buffer.raw.waits new.text.buffer.raw.waits (took.calls.wait refl) calm);
@@ -185,6 +187,7 @@ wrote_failed old new text may took failed joined =
       starves = tt;
       closes = tt;
       stays = λ is. took.stays;
+      unclosed = owing_open old.text.buffer (over_of new) took.stays;
       stops = λ short. absurd (cc);
       answer = tt;
       complete = λ calm sound. absurd (not_rose old.text.buffer.raw.faults new.text.buffer.raw.faults (took.calls.fault refl) sound);
@@ -220,6 +223,7 @@ wrote_starved old new text may took failed has gave joined =
       starves = inr (failed, has, gave);
       closes = tt;
       stays = λ is. took.stays;
+      unclosed = owing_open old.text.buffer (over_of new) took.stays;
       stops = λ short. absurd (cc);
       answer = tt;
       complete = λ calm sound. record { answer = tt; whole = refl };
@@ -257,6 +261,7 @@ unwritten_failed old new text may hands failed joined =
       starves = tt;
       closes = tt;
       stays = λ is. hands.stays;
+      unclosed = owing_open old.text.buffer (over_of new) hands.stays;
       stops = λ short. absurd (cc);
       answer = tt;
       complete = λ calm sound. absurd (not_rose old.text.buffer.raw.faults new.text.buffer.raw.faults (hands.calls.fault refl) sound);
@@ -289,6 +294,7 @@ unwritten_starved old new text may hands lives joined =
       starves = inl (record { life_is = current; settings = hands.settings; place = hands.place });
       closes = tt;
       stays = λ is. hands.stays;
+      unclosed = owing_open old.text.buffer (over_of new) hands.stays;
       stops = λ short. absurd (cc);
       answer = tt;
       complete = λ calm sound. record { answer = tt; whole = refl };

@@ -9,7 +9,7 @@ use Rattle.py_stream.specs.Kinds.{says_fault}
 use Rattle.py_stream.specs.Buffer.{WhereShown}
 use Rattle.py_read_text.specs.Ahead.{ReadsNoFurther}
 use Rattle.py_read_text.specs.Answers.{calls_nothing, passes_on, gives_text, IsReplyTo, IsComplete, IsShort, PlaceMoves, WriteMoves, LifeMoves, settings_after, closes_again, WantsMemory, ClosesWithRaw, HidesNothing, TextPasses, TextKeeps}
-use Rattle.py_read_text.specs.Owing.{IsJoined, OwesOn, Starves, StopsOwing, KeepsOpen, may_close, Closes}
+use Rattle.py_read_text.specs.Owing.{IsJoined, OwesOn, Starves, StopsOwing, KeepsOpen, StaysWhileOwing, may_close, Closes}
 use Rattle.py_textio.specs.Written.{WrittenView, place_now, over_of, state_of, file_now, CallsBuffer}
 
 pub record Works (old : WrittenView) (call : TextFileCall) (reply : FileReply) (new : WrittenView) (short : Bool) : Type 0 where
@@ -33,6 +33,7 @@ pub record Works (old : WrittenView) (call : TextFileCall) (reply : FileReply) (
   pub starves : Starves (over_of old) call reply (over_of new)
   pub closes : Closes old.life call old.text.buffer reply new.text.buffer
   pub stays : may_close call reply ≡ false → KeepsOpen old.text.buffer new.text.buffer
+  pub unclosed : StaysWhileOwing old.text.buffer (over_of new)
   pub stops : IsTrue short → StopsOwing (gives_text call) (over_of new)
   -- what was answered
   pub answer : IsReplyTo true call reply
