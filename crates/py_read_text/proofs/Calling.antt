@@ -29,6 +29,7 @@ use Rattle.py_read_text.proofs.Results.{same_file}
 use Rattle.py_read_text.proofs.Placing.{flush_flat, close_flat, text_flushed, text_closed}
 use Rattle.py_read_text.proofs.Answering.{Holds}
 use Rattle.py_read_text.proofs.Owing.{joined_of, passes_behind, front_passes, owes_none, open_of, attached_in}
+use Rattle.py_read_text.proofs.Fronts.{lays_alone, lays_owed}
 
 -- What passes on, in the model: a close, or a flush.
 
@@ -179,6 +180,7 @@ flush_so old after result live is answers =
       moves = record { settings = refl; life_is = flush_life (size_shown old.buffer.buffering) old.buffer.can.writable result old.buffer.life after.life answers.moves.life_is; place = refl; written = tt };
       joined = joined_of (with_buffer old after) (text_flushed old.buffer after old.held old.at old.taken old.settings result live answers is);
       owes = owes_none (over_of old) Flush (over_of (with_buffer old after)) tt (passes_behind old.buffer.raw after.raw old.buffer.owed.bytes after.owed.bytes [] (front_passes old.buffer after answers.owes));
+      lays = λ told. lays_owed (over_of old) [] after.raw.bytes (joined_of old is) (lays_alone old.buffer after is.owes answers.lays told);
       starves = flush_starves old after result answers;
       answer = λ accepts. flush_reply (size_shown old.buffer.buffering) old.buffer.can.writable result (answers.answer taken_here);
       complete = λ accepts calm sound. flush_complete result (answers.complete taken_here calm sound).0;
@@ -308,6 +310,7 @@ close_so old after result live is answers =
       moves = record { settings = refl; life_is = close_life (size_shown old.buffer.buffering) old.buffer.can.writable result old.buffer.life after.life answers.moves.life_is; place = refl; written = tt };
       joined = joined_of (with_buffer old after) (text_closed old.buffer after old.held old.at old.taken old.settings result live answers is);
       owes = owes_none (over_of old) Close (over_of (with_buffer old after)) tt (passes_behind old.buffer.raw after.raw old.buffer.owed.bytes after.owed.bytes [] (front_passes old.buffer after answers.owes));
+      lays = λ told. lays_owed (over_of old) [] after.raw.bytes (joined_of old is) (lays_alone old.buffer after is.owes answers.lays told);
       starves = close_starves old after result answers;
       answer = λ accepts. close_reply (size_shown old.buffer.buffering) old.buffer.can.writable result (answers.answer taken_here);
       complete = λ accepts calm sound. close_complete result (answers.complete taken_here calm sound).0;

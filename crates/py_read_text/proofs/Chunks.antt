@@ -1,5 +1,5 @@
 -- What a chunk that came, or none, leaves of a text.
-use Rattle.std.proofs.Common.{◌≡◌, ℕ, Bool, true, false, List, [], ◌∷◌, ◌++◌, length, nat_eq, Option, Some, None, Result, Ok, Err, Vec, refl, sym, ap, ◌∙◌, subst, arith}
+use Rattle.std.proofs.Common.{◌≡◌, ◌≢◌, ℕ, Bool, true, false, List, [], ◌∷◌, ◌++◌, length, nat_eq, Option, Some, None, Result, Ok, Err, Vec, refl, sym, ap, ◌∙◌, subst, arith}
 use Rattle.std.specs.declared.alloc.Global.{Global}
 use Rattle.py_flat.specs.declared.fault.IoFault.{IoFault}
 use Rattle.py_flat.specs.declared.fault.IoFault.TheVariants as fault
@@ -13,7 +13,7 @@ use Rattle.py_raw.proofs.Telling.{tells_still}
 use Rattle.py_held_text.specs.Held.{HeldView}
 use Rattle.py_read_text.specs.declared.read_text.Chunk.TheVariants as chunk
 use Rattle.py_read_text.specs.Knowing.{TextView, IsText}
-use Rattle.py_read_text.specs.Reading.{Gave, GaveNothing, Waited, ReadOutcome, IsAtEnd, HoldsAsBefore, BringsNothing, FetchOutcome}
+use Rattle.py_read_text.specs.Reading.{Gave, GaveNothing, Waited, ReadOutcome, IsAtEnd, HoldsAsBefore, Brings, BringsNothing, FetchOutcome}
 use Rattle.py_read_text.proofs.Fetching.{reads_live}
 use Rattle.py_read_text.proofs.Holding.{text_room, text_read_nothing, text_brought}
 
@@ -78,3 +78,22 @@ waited_so now old new same held waited = subst (λ (view : TextView). FetchOutco
 pub empty_part : (size : ℕ) (part : List ℕ) → size ≡ length part → true ≡ nat_eq size 0 → part ≡ []
 empty_part size [] is tested = refl
 empty_part size (byte ∷ part) is tested = absurd (grind arith)
+
+pub some_part : (size : ℕ) (part : List ℕ) → size ≡ length part → false ≡ nat_eq size 0 → part ≢ []
+some_part size [] is tested none = absurd (grind arith)
+some_part size (byte ∷ more) is tested none = absurd (cc)
+
+-- some bytes came
+pub more_so : (now old new : TextView) (mid : HeldView) (part piece : List ℕ) (room : ℕ) → old ≡ now → Gave old.buffer old.settings.chunk_size part new.buffer → part ≢ [] → mid ≡ record old.held { room = mid.room } → piece ≡ part → new.held ≡ record mid { bytes = mid.bytes ++ piece; room = room } → FetchOutcome now (Ok chunk.More) new
+more_so now old new mid part piece room is gave some mid_is same put =
+    let taken : HeldView = record old.held { bytes = old.held.bytes ++ part; room = room } in
+    let put_so : new.held ≡ taken = put ∙ (ap (λ (bytes : List ℕ). record mid { bytes = mid.bytes ++ bytes; room = room }) same ∙ ap (λ (own : HeldView). record own { bytes = own.bytes ++ part; room = room }) mid_is) in
+    let brought : Brings old new = record {
+      part = part;
+      some = some;
+      few = gave.fits;
+      held = put_so ∙ ap (λ (own : ℕ). record old.held { bytes = old.held.bytes ++ part; room = own }) (sym (ap (λ (own : HeldView). own.room) put));
+      reads = gave.reads;
+      place = gave.place;
+    } in
+    subst (λ (view : TextView). FetchOutcome view (Ok chunk.More) new) is brought

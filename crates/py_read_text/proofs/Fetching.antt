@@ -1,5 +1,5 @@
 -- What the clause of buffered streams says of the bytes under a text.
-use Rattle.std.proofs.Common.{◌≡◌, ◌≢◌, ℕ, zero, suc, ◌+◌, ◌<◌, ◌≤◌, ◌⊎◌, inl, inr, IsSome, Bool, true, false, ◌&&◌, IsTrue, List, [], ◌∷◌, ◌++◌, length, take, drop, Option, Some, None, if◌then◌else◌, Result, Ok, Err, Vec, sym, ap, ◌∙◌, subst, refl, arith}
+use Rattle.std.proofs.Common.{◌≡◌, ◌≢◌, ℕ, zero, suc, ◌+◌, ◌<◌, ◌≤◌, ◌⊎◌, inl, inr, IsSome, Bool, true, false, ◌&&◌, IsTrue, List, [], ◌∷◌, ◌++◌, length, take, drop, Option, Some, None, if◌then◌else◌, Result, Ok, Err, Vec, sym, ap, ◌∙◌, subst, refl, arith, ◌-◌, append-nil}
 use Rattle.std.proofs.lemmas.List.{append_assoc, take-append-drop, take_all, length-drop}
 use Rattle.std.specs.declared.alloc.Global.{Global}
 use Rattle.py_flat.specs.declared.fault.IoFault.{IoFault}
@@ -22,6 +22,9 @@ use Rattle.py_stream.specs.Answers.{PlaceStarves}
 use Rattle.py_stream.specs.Buffer.{Buffer, WhereShown, flat_of, size_shown, refused_here, BufferIsCounted, GivesAsked, AnswersAsBuffer}
 use Rattle.py_read_text.specs.Reading.{Reads, ReadOutcome}
 use Rattle.py_read_text.proofs.Owing.{front_passes, passes_then}
+use Rattle.py_raw.proofs.Telling.{tells_still}
+use Rattle.py_read_text.specs.Owing.{LaysFront}
+use Rattle.py_read_text.proofs.Fronts.{laid_none, lays_alone, lays_at_end, lays_behind, owed_within}
 
 -- a live buffer that reads refuses no `read1`
 pub accepts_read : (buffer : Buffer) (size : Option ℕ) → buffer.life ≡ life.Live → buffer.can.readable ≡ true → is_unbuffered buffer.buffering ≡ false → buffer.exported ≡ false → (refused_here buffer (Read1 size) ≡ None) × (refusal (flat_of buffer) (Read1 size) ≡ None)
@@ -150,6 +153,7 @@ reads_so before after size reply waited faulted answers goes = record {
   spares = λ can none. let spared = answers.spares can none in record { bytes = spared.bytes; written = spared.written; owed = spared.owed };
   stays = answers.stays refl;
   passes = front_passes before after answers.owes;
+  lays = λ ends. lays_alone before after ends answers.lays;
   stands = λ stood. answers.stands;
   owes = rest_up_to before.owed after.owed before.place after.place answers.owes.passed answers.owes.most answers.owes.bytes answers.owes.place first;
   none = λ none. answers.owes.bytes ∙ drop_none answers.owes.passed before.owed.bytes none;
@@ -218,6 +222,29 @@ reads_live before after size (Err other) is some answers = absurd (answers.answe
 
 -- One reading behind another.
 
+reads_lay : (before mid after : Buffer) (waited faulted : Bool) → Reads before false false mid → Reads mid waited faulted after → OwesUpTo before.owed before.place → WhereShown before (LaysFront before.raw.bytes (before.place - length before.owed.bytes) before.owed.bytes after.raw.bytes)
+reads_lay before mid after waited faulted first second ends told = by_first first.first
+  where
+    from : ℕ
+    from = before.place - length before.owed.bytes
+
+    behind : ℕ
+    behind = mid.place - length mid.owed.bytes
+
+    laid : LaysFront mid.raw.bytes behind mid.owed.bytes after.raw.bytes
+    laid = second.lays (first.owes ends) (tells_still before.raw mid.raw first.keeps.raw ∙ told)
+
+    flat : lay mid.raw.bytes behind mid.owed.bytes ≡ lay before.raw.bytes from before.owed.bytes
+    flat = sym (lays_at_end mid.raw.bytes mid.owed mid.place (first.owes ends)) ∙ (first.bytes told ∙ lays_at_end before.raw.bytes before.owed before.place ends)
+
+    by_first : (mid.place ≡ before.place) ⊎ (mid.owed.bytes ≡ []) → LaysFront before.raw.bytes from before.owed.bytes after.raw.bytes
+    by_first (inr none) = subst (LaysFront before.raw.bytes from before.owed.bytes) (sym (laid_none mid.raw.bytes behind mid.owed.bytes after.raw.bytes none laid)) (first.lays ends told)
+    by_first (inl place) =
+        let at : behind ≡ from + first.passes.passed = omega (arith, place, ap length first.passes.rest, length-drop first.passes.passed before.owed.bytes, first.passes.most, owed_within before.owed before.place ends) in
+        subst (λ (owed : List ℕ). LaysFront before.raw.bytes from owed after.raw.bytes) (append-nil before.owed.bytes)
+        (lays_behind before.raw.bytes from behind before.owed.bytes mid.owed.bytes [] mid.raw.bytes after.raw.bytes first.passes.passed first.passes.most first.passes.rest at (first.lays ends told) flat
+        (subst (λ (owed : List ℕ). LaysFront mid.raw.bytes behind owed after.raw.bytes) (sym (append-nil mid.owed.bytes)) laid))
+
 pub reads_on : (before mid after : Buffer) (waited faulted : Bool) → Reads before false false mid → Reads mid waited faulted after → Reads before waited faulted after
 reads_on before mid after waited faulted first second = record {
   keeps = grind arith;
@@ -232,6 +259,7 @@ reads_on before mid after waited faulted first second = record {
   spares = grind arith;
   stays = grind arith;
   passes = passes_then before.raw mid.raw after.raw before.owed.bytes mid.owed.bytes after.owed.bytes first.keeps.raw first.passes second.passes;
+  lays = reads_lay before mid after waited faulted first second;
   stands = λ stood. second.stands (first.stands stood);
   owes = λ ends. second.owes (first.owes ends);
   none = λ none. second.none (first.none none);

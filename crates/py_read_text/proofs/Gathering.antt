@@ -1,5 +1,5 @@
 -- How a text gathers what a call asks for.
-use Rattle.std.proofs.Common.{◌≡◌, ◌≢◌, ℕ, zero, suc, ◌≤◌, inl, Bool, true, false, nat_le, if◌then◌else◌, List, [], ◌∷◌, ◌++◌, length, Some, None, Result, Ok, Err, refl, sym, ap, ◌∙◌, subst, arith}
+use Rattle.std.proofs.Common.{◌≡◌, ◌≢◌, ℕ, zero, suc, ◌≤◌, inl, Bool, true, false, nat_le, if◌then◌else◌, List, [], ◌∷◌, ◌++◌, length, Some, None, Result, Ok, Err, refl, sym, ap, ◌∙◌, subst, arith, ◌-◌}
 use Rattle.py_flat.specs.declared.fault.IoFault.{IoFault}
 use Rattle.py_flat.specs.declared.fault.IoFault.TheVariants as fault
 use Rattle.py_flat.specs.declared.life.Life.TheVariants as life
@@ -24,6 +24,7 @@ use Rattle.py_read_text.specs.Reading.{Coming, Follows, Reads, HeldAt, IsTold, I
 use Rattle.py_read_text.proofs.Fetching.{reads_on}
 use Rattle.py_read_text.proofs.Ahead.{needs_chunk}
 use Rattle.py_read_text.proofs.Owing.{passes_none}
+use Rattle.py_read_text.proofs.Fronts.{lays_none}
 use Rattle.py_read_text.proofs.Answering.{last_at_range}
 use Rattle.py_read_text.proofs.Knowing.{ends_behind}
 use Rattle.py_read_text.proofs.Holding.{text_follows}
@@ -43,6 +44,7 @@ reads_itself buffer far = record {
   spares = λ can none. record { bytes = λ told. refl; written = λ told. refl; owed = none };
   stays = λ closed. refl;
   passes = passes_none buffer.raw buffer.owed.bytes;
+  lays = λ ends told. lays_none buffer.raw.bytes (buffer.place - length buffer.owed.bytes) buffer.owed.bytes buffer.raw.bytes refl;
   stands = λ stood. stood;
   owes = λ ends. ends;
   none = λ none. none;

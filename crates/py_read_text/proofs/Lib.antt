@@ -14,4 +14,6 @@ mod Stopping
 mod Beginning
 pub mod Placing
 pub mod Owing
+mod Laying
+pub mod Fronts
 pub mod Calling

@@ -1,5 +1,5 @@
 -- A text whose buffer was called without a byte read, or that was placed anew.
-use Rattle.std.proofs.Common.{◌≡◌, ℕ, ◌+◌, ◌≤◌, ◌⊎◌, inl, inr, ℤ, pos, to_z, w64, Bool, true, false, IsTrue, List, [], length, if◌then◌else◌, Option, Some, None, Result, Ok, Err, refl, sym, ap, ◌∙◌, subst, arith}
+use Rattle.std.proofs.Common.{◌≡◌, ℕ, ◌+◌, ◌≤◌, ◌⊎◌, inl, inr, ℤ, pos, to_z, w64, Bool, true, false, IsTrue, List, [], length, if◌then◌else◌, Option, Some, None, Result, Ok, Err, refl, sym, ap, ◌∙◌, subst, arith, ◌-◌}
 use Rattle.std.proofs.lemmas.List.{take_all}
 use Rattle.std.proofs.lemmas.Bool.{le-ltb}
 use Rattle.std.proofs.lemmas.Int.{to_z_pos}
@@ -28,6 +28,7 @@ use Rattle.py_read_text.specs.Knowing.{TextView, from_place, KnowsTold, ReadsBy,
 use Rattle.py_read_text.specs.Writing.{unit_of, LeavesFlat, ReturnOutcome}
 use Rattle.py_read_text.proofs.Fetching.{rest_up_to, drop_none}
 use Rattle.py_read_text.proofs.Beginning.{knows_begun}
+use Rattle.py_read_text.proofs.Fronts.{laid_none, lays_alone}
 
 -- The flat bytes.
 
@@ -193,6 +194,7 @@ leaves_flat before after at reply is current answers = record {
   faults = λ exact sound. (answers.counted exact).faults sound;
   life_is = current;
   bytes = λ told. seek_flat (flat_of before) (flat_of after) at reply after.short (says_fault reply) (answers.told (rw is.kept refl) told);
+  raw_bytes = λ told. laid_none before.raw.bytes (before.place - length before.owed.bytes) before.owed.bytes after.raw.bytes is.none (lays_alone before after (inl is.none) answers.lays told);
   far = answers.moves.far;
   stands = λ stood. answers.stands;
   stays = answers.stays refl;

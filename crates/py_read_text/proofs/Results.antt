@@ -24,12 +24,13 @@ use Rattle.py_read_text.specs.declared.read_text.Answer.{Answer}
 use Rattle.py_read_text.specs.Waiting.{ShowsAll}
 use Rattle.py_read_text.specs.Ahead.{AsksAsNeeded}
 use Rattle.py_read_text.specs.TextState.{TextState}
-use Rattle.py_read_text.specs.Owing.{IsJoined, WriteMovesBy, Starves, Closes}
+use Rattle.py_read_text.specs.Owing.{IsJoined, given_by, WriteMovesBy, Starves, Closes}
 use Rattle.py_read_text.specs.Answers.{calls_nothing, gives_text, IsReplyTo, IsComplete, IsShort, PlaceMoves, WriteMoves, LifeMoves, settings_after, closes_again, WantsMemory, ClosesWithRaw, TextPasses, TextKeeps, Answers}
 use Rattle.py_read_text.specs.Knowing.{TextView, place_of, over_of, state_of, shown_file}
 use Rattle.py_read_text.specs.Reading.{call_of, asks_none, Reads, KeepsPlace, HoldsNothing, gathers_wait, GatherOutcome, GathersAsNeeded, Finishes, OnlyWhereWaits, WaitsOrLacks, reply_of, waited_in}
 use Rattle.py_read_text.proofs.Steps.{accepts}
 use Rattle.py_read_text.proofs.Owing.{passes_behind, owes_none, open_called}
+use Rattle.py_read_text.proofs.Fronts.{lays_owed}
 
 -- The same text.
 
@@ -101,6 +102,7 @@ completes (Line limit) reply short old new writes is shorts waits faults calm so
 
 -- the parts of a call: what was read, by whether it waited; and what was answered, short or not
 pub record Parts (old : TextView) (asked : Wanted) (waited short : Bool) (reply : FileReply) (new : TextView) : Type 0 where
+  pub was : IsJoined (over_of old)
   pub reads : Reads old.buffer waited (says_fault reply) new.buffer
   pub waits : IsTrue short → waited ≡ true
   pub quiet : short ≡ false → says_no_memory reply ≡ false → waited ≡ false
@@ -159,6 +161,7 @@ answers old new asked waited short reply live can parts =
       wants = wants_none asked reply old.buffer;
       joined = parts.joined;
       owes = owes_none (over_of old) (call_of asked) (over_of new) (writes_no_place asked old.at new.at) (passes_behind old.buffer.raw new.buffer.raw old.buffer.owed.bytes new.buffer.owed.bytes [] parts.reads.passes);
+      lays = λ told. lays_owed (over_of old) (given_by old.settings (call_of asked)) new.buffer.raw.bytes parts.was (parts.reads.lays parts.was.below told);
       starves = starves_so old new asked waited short reply parts;
       closes = (never_closes asked old.buffer.life old.buffer new.buffer reply).1;
       stays = λ is. open_called old.buffer new.buffer (says_fault reply) live parts.reads.life_is parts.reads.stays;
@@ -202,10 +205,11 @@ pub starves_step : (file after : TextFile) (asked : Wanted) → file.life ≡ li
 starves_step file after (Characters size) live can same = out_of_memory refl (inl (rw live (rw can refl), same))
 starves_step file after (Line limit) live can same = out_of_memory refl (inl (rw live (rw can refl), same))
 
-pub stopped : (old new : TextView) (asked : Wanted) (why : IoFault) → old.buffer.life ≡ life.Live → old.buffer.can.readable ≡ true → IsJoined (over_of new) → KeepsPlace old new → (asks_none asked ≡ true → new.buffer ≡ old.buffer) → GathersAsNeeded old asked new → GatherOutcome old asked (Err why) new → Answers (state_of old false) (call_of asked) (Refused why) (state_of new false)
-stopped old new asked fault.RawFault live can joined place nothing needs outcome =
+pub stopped : (old new : TextView) (asked : Wanted) (why : IoFault) → old.buffer.life ≡ life.Live → old.buffer.can.readable ≡ true → IsJoined (over_of old) → IsJoined (over_of new) → KeepsPlace old new → (asks_none asked ≡ true → new.buffer ≡ old.buffer) → GathersAsNeeded old asked new → GatherOutcome old asked (Err why) new → Answers (state_of old false) (call_of asked) (Refused why) (state_of new false)
+stopped old new asked fault.RawFault live can was joined place nothing needs outcome =
     let reads = outcome.0 in
     answers old new asked false false (Refused fault.RawFault) live can (record {
+      was = was;
       reads = reads;
       waits = λ is. absurd (cc);
       quiet = λ whole has. refl;
@@ -219,9 +223,10 @@ stopped old new asked fault.RawFault live can joined place nothing needs outcome
       told = λ told. faults_step (shown_file old) (shown_file new) asked live can reads.life_is (reads.bytes told) reads.keeps.can place.settings;
       hides = λ is. absurd (cc);
     })
-stopped old new asked fault.NoMemory live can joined place nothing needs outcome =
+stopped old new asked fault.NoMemory live can was joined place nothing needs outcome =
     let reads = outcome.0 in
     answers old new asked false false (Refused fault.NoMemory) live can (record {
+      was = was;
       reads = reads;
       waits = λ is. absurd (cc);
       quiet = λ whole has. refl;
@@ -235,7 +240,7 @@ stopped old new asked fault.NoMemory live can joined place nothing needs outcome
       told = λ told. starves_step (shown_file old) (shown_file new) asked live can (same_file old new (reads.bytes told) reads.keeps.can reads.life_is place);
       hides = λ is. absurd (cc);
     })
-stopped old new asked other live can joined place nothing needs outcome = absurd outcome.1
+stopped old new asked other live can was joined place nothing needs outcome = absurd outcome.1
 
 -- A call that was answered.
 
@@ -253,12 +258,13 @@ quiet_so (gathered.Before front) result lacks whole has = refl
 quiet_so (gathered.Refuses start end) result lacks whole has = refl
 quiet_so gathered.Ends result lacks whole has = refl
 
-pub finished : (old mid new : TextView) (asked : Wanted) (stop : Gathered) (result : Result Answer IoFault) → old.buffer.life ≡ life.Live → old.buffer.can.readable ≡ true → IsJoined (over_of new) → KeepsPlace old mid → (asks_none asked ≡ true → mid.buffer ≡ old.buffer) → GathersAsNeeded old asked mid → GatherOutcome old asked (Ok stop) mid → OnlyWhereWaits stop (waited_in result) → WaitsOrLacks stop result → Finishes mid asked result new → Answers (state_of old false) (call_of asked) (reply_of result) (state_of new (waited_in result))
-finished old mid new asked stop result live can joined place nothing needs outcome only lacks done =
+pub finished : (old mid new : TextView) (asked : Wanted) (stop : Gathered) (result : Result Answer IoFault) → old.buffer.life ≡ life.Live → old.buffer.can.readable ≡ true → IsJoined (over_of old) → IsJoined (over_of new) → KeepsPlace old mid → (asks_none asked ≡ true → mid.buffer ≡ old.buffer) → GathersAsNeeded old asked mid → GatherOutcome old asked (Ok stop) mid → OnlyWhereWaits stop (waited_in result) → WaitsOrLacks stop result → Finishes mid asked result new → Answers (state_of old false) (call_of asked) (reply_of result) (state_of new (waited_in result))
+finished old mid new asked stop result live can was joined place nothing needs outcome only lacks done =
     let reads : Reads old.buffer (gathers_wait (Ok stop)) false new.buffer = subst (Reads old.buffer (gathers_wait (Ok stop)) false) (sym done.buffer) outcome.0 in
     let same : WhereShown old.buffer (shown_file mid ≡ shown_file old) = λ told. same_file old mid (outcome.0.bytes told) outcome.0.keeps.can outcome.0.life_is place in
     let tells_mid = tells_still old.buffer.raw mid.buffer.raw outcome.0.keeps.raw in
     answers old new asked (gathers_wait (Ok stop)) (waited_in result) (reply_of result) live can (record {
+      was = was;
       reads = subst (λ (faulted : Bool). Reads old.buffer (gathers_wait (Ok stop)) faulted new.buffer) (sym done.sound) reads;
       waits = λ is. waits_only stop (waited_in result) only is;
       quiet = λ whole has. quiet_so stop result lacks whole has;

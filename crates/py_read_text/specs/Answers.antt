@@ -1,5 +1,5 @@
 -- The one clause of all calls of a text: what a call may answer and leave, over any buffered stream.
-use Rattle.std.specs.Prelude.{◌≡◌, ◌≢◌, ℕ, zero, ◌+◌, ◌<◌, ◌≤◌, ◌⊎◌, ◌||◌, nat_eq, Bool, true, false, IsTrue, List, [], ◌∷◌, length, Option, Some, None, String, Result, Ok, Err}
+use Rattle.std.specs.Prelude.{◌≡◌, ◌≢◌, ℕ, zero, ◌+◌, ◌<◌, ◌≤◌, ◌⊎◌, ◌||◌, nat_eq, Bool, true, false, IsTrue, List, [], ◌∷◌, ◌++◌, length, Option, Some, None, String, Result, Ok, Err}
 use Rattle.std.specs.List.{list_any}
 use Rattle.std.specs.declared.alloc.Global.{Global}
 use Rattle.py_flat.specs.declared.fault.IoFault.{IoFault}
@@ -26,7 +26,7 @@ use Rattle.py_stream.specs.Buffer.{Buffer, WhereShown, KeepsBuffer, IsClosedWith
 use Rattle.py_read_text.specs.TextState.{TextState, file_of}
 use Rattle.py_read_text.specs.Waiting.{ShowsAll}
 use Rattle.py_read_text.specs.Ahead.{ReadsNoFurther}
-use Rattle.py_read_text.specs.Owing.{IsJoined, OwesOn, Starves, StopsOwing, KeepsOpen, StaysWhileOwing, may_close, Closes}
+use Rattle.py_read_text.specs.Owing.{all_owed, IsJoined, given_by, OwesOn, LaysOwed, Starves, StopsOwing, KeepsOpen, StaysWhileOwing, may_close, Closes}
 
 -- what the answer of a reading says, in the model's words
 abbrev pub text_reply : Result (Option (String Global)) IoFault → FileReply
@@ -263,6 +263,8 @@ pub record Answers (before : TextState) (call : TextFileCall) (reply : FileReply
   pub joined : IsJoined after.text
   -- no byte is lost and none doubled: what is owed is what was and what the call gave, without what the raw answered for
   pub owes : OwesOn before.text call after.text
+  -- told, the raw has a front then of what was owed and of what the call gave behind that, laid on where that begins, whatever it answers
+  pub lays : LaysOwed before.text (all_owed before.text ++ given_by before.text.settings call) after.text
   -- running out of memory fails a text only in a call that has bytes of its own to hand on, once some went on
   pub starves : Starves before.text call reply after.text
   -- which replies may come of a call that isn't refused

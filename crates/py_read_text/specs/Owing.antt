@@ -1,8 +1,9 @@
 -- What a text and its buffer owe, over any raw, and whether a call closes the raw.
-use Rattle.std.specs.Prelude.{◌≡◌, ◌≢◌, ◌⊎◌, ℕ, ◌+◌, ◌-◌, ◌<◌, ◌≤◌, Bool, true, false, IsTrue, List, [], ◌++◌, length, drop}
+use Rattle.std.specs.Prelude.{◌≡◌, ◌≢◌, ◌⊎◌, ℕ, ◌+◌, ◌-◌, ◌<◌, ◌≤◌, Bool, true, false, IsTrue, List, [], ◌++◌, length, take, drop}
 use Rattle.py_flat.specs.declared.fault.IoFault.TheVariants as fault
 use Rattle.py_flat.specs.declared.life.Life.{Life}
 use Rattle.py_flat.specs.declared.life.Life.TheVariants as life
+use Rattle.py_flat.specs.Bytes.{lay}
 use Rattle.py_flat.specs.Limits.{greatest_place}
 use Rattle.py_flat.specs.Calls.{FileReply, Done, Refused}
 use Rattle.py_plain_text.specs.TextFile.{TextSettings}
@@ -12,7 +13,7 @@ use Rattle.py_plain_text.specs.TextWriting.{written_bytes}
 use Rattle.py_raw.specs.RawStream.{Raw, StaysOpen, AnswersFor}
 use Rattle.py_stream.specs.Stream.{Stream, size_of}
 use Rattle.py_stream.specs.Writing.{OwesUpTo, IsFull, TookOwn}
-use Rattle.py_stream.specs.Buffer.{Buffer, stream_shown, IsClosedWithRaw}
+use Rattle.py_stream.specs.Buffer.{Buffer, WhereShown, stream_shown, IsClosedWithRaw}
 
 -- What is owed.
 
@@ -57,6 +58,19 @@ pub record OwesOn (before : TextOver Buffer) (call : TextFileCall) (after : Text
   pub whole : (taken ≡ []) ⊎ (taken ≡ given_by before.settings call)
   pub place : WriteMovesBy call (length taken) before.place.at after.place.at
   pub passes : PassesOwed before.buffer.raw (all_owed before ++ taken) after.buffer.raw (all_owed after)
+
+-- where all that is owed begins; where nothing is, the text place, where the bytes of a write would
+abbrev pub all_from : TextOver Buffer → ℕ
+all_from text = text.place.at - length (all_owed text)
+
+-- some bytes are others with a front of what is owed laid on, from a place on
+pub record LaysFront (bytes : List ℕ) (from : ℕ) (owed after : List ℕ) : Type 0 where
+  pub count : ℕ
+  pub laid : after ≡ lay bytes from (take count owed)
+
+-- told, the raw's bytes after a call: those before it, with a front of some that were owed or given laid on where what is owed begins
+abbrev pub LaysOwed : TextOver Buffer → (owed : List ℕ) → TextOver Buffer → Type 0
+LaysOwed before owed after = WhereShown before.buffer (LaysFront before.buffer.raw.bytes (all_from before) owed after.buffer.raw.bytes)
 
 -- Running out of memory.
 

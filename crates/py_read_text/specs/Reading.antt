@@ -1,5 +1,5 @@
 -- How a text reads: the steps of a call.
-use Rattle.std.specs.Prelude.{◌≡◌, ℕ, zero, ◌+◌, ◌*◌, ◌≤◌, ◌≢◌, ◌⊎◌, ◌||◌, Bool, true, false, not, IsTrue, String, List, [], ◌++◌, length, take, drop, max, Option, Some, None, Result, Ok, Err, Vec, if◌then◌else◌}
+use Rattle.std.specs.Prelude.{◌≡◌, ℕ, zero, ◌+◌, ◌*◌, ◌≤◌, ◌≢◌, ◌⊎◌, ◌||◌, Bool, true, false, not, IsTrue, String, List, [], ◌++◌, length, take, drop, max, Option, Some, None, Result, Ok, Err, Vec, if◌then◌else◌, ◌-◌}
 use Rattle.std.specs.declared.alloc.Global.{Global}
 use Rattle.py_flat.specs.declared.fault.IoFault.{IoFault}
 use Rattle.py_flat.specs.declared.fault.IoFault.TheVariants as fault
@@ -38,7 +38,7 @@ use Rattle.py_read_text.specs.declared.read_text.Answer.{Answer}
 use Rattle.py_read_text.specs.declared.read_text.Answer.TheVariants as answer
 use Rattle.py_read_text.specs.Waiting.{ShowsAll}
 use Rattle.py_read_text.specs.Ahead.{AsksAsNeeded}
-use Rattle.py_read_text.specs.Owing.{PassesOwed}
+use Rattle.py_read_text.specs.Owing.{PassesOwed, LaysFront}
 use Rattle.py_read_text.specs.Answers.{SparesBytes, StandsWhileLive, IsReplyTo, IsShort, PlaceMoves}
 
 -- the call that some wanted characters answer
@@ -89,6 +89,7 @@ pub record Reads (before : Buffer) (waited faulted : Bool) (after : Buffer) : Ty
   pub spares : before.can.writable ≡ false → before.owed ≡ nothing_owed before.place → SparesBytes before after
   pub stays : IsClosedWithRaw before → StaysOpen before.raw after.raw
   pub passes : PassesOwed before.raw before.owed.bytes after.raw after.owed.bytes
+  pub lays : OwesUpTo before.owed before.place → WhereShown before (LaysFront before.raw.bytes (before.place - length before.owed.bytes) before.owed.bytes after.raw.bytes)
   pub stands : StandsWhileLive before → StandsWhileLive after
   pub owes : OwesUpTo before.owed before.place → OwesUpTo after.owed after.place
   pub none : before.owed.bytes ≡ [] → after.owed.bytes ≡ []

@@ -16,14 +16,15 @@ pub record StandsBehind (old new : TextView) : Type 0 where
   pub clean : IsClean new
   pub settings : new.settings ≡ old.settings
 
--- the buffer was called, and no byte was read or written: its flat bytes and what it owes stay, and the raw answered for none and isn't
--- closed; `faulted` says that the raw failed
+-- the buffer was called, and no byte was read or written: its flat bytes, the raw's and what it owes stay, and the raw answered for none
+-- and isn't closed; `faulted` says that the raw failed
 pub record LeavesFlat (before : Buffer) (faulted : Bool) (after : Buffer) : Type 0 where
   pub keeps : KeepsBuffer before after
   pub fault : IsTrue faulted → Rose before.raw.faults after.raw.faults
   pub faults : IsTrue before.raw.counts_exactly → faulted ≡ false → after.raw.faults ≡ before.raw.faults
   pub life_is : after.life ≡ (if faulted then life.Failed else before.life)
   pub bytes : WhereShown before ((flat_of after).bytes ≡ (flat_of before).bytes)
+  pub raw_bytes : WhereShown before (after.raw.bytes ≡ before.raw.bytes)
   pub far : after.place ≤ greatest_place
   pub stands : StandsWhileLive before → StandsWhileLive after
   pub stays : IsClosedWithRaw before → StaysOpen before.raw after.raw

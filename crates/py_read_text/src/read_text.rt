@@ -448,8 +448,9 @@ impl<B: BufferedStream> ReadText<B> {
         requires reads { self.old.buffer.can.readable ≡ true }
         ensures { Answers (state_of self.old false) (call_of wanted) (reply_of result) (state_of self.new (waited_in result)) }
     {
+        // What holds of every text is known from here on, and again below.
+        let _ = self.life();
         let gathered = self.gather(alloc, wanted);
-        // What holds of every text is known from here on.
         let _ = &self.held;
         match gathered {
             Ok(gathered) => {

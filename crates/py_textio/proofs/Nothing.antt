@@ -19,6 +19,7 @@ use Rattle.py_read_text.specs.Reading.{call_of, asks_none}
 use Rattle.py_read_text.proofs.Steps.{accepts}
 use Rattle.py_read_text.proofs.Owing.{passes_none, owes_none, open_still}
 use Rattle.py_textio.specs.Written.{WrittenView, place_now, over_of, state_of, file_now}
+use Rattle.py_read_text.proofs.Fronts.{lays_still}
 
 no_more : (count : ℕ) → nat_lt count 0 ≡ false
 no_more count = le-ltb count 0 (omega arith)
@@ -80,6 +81,7 @@ none_answers (Characters size) old was live can none joined = record {
   moves = record { settings = refl; life_is = refl; place = none_moves (Characters size) (place_now old) old.text.buffer.place none; written = tt };
   joined = joined;
   owes = owes_none (over_of old) (call_of (Characters size)) (over_of old) tt (passes_none old.text.buffer.raw (all_owed (over_of old)));
+  lays = lays_still (over_of old) _;
   starves = tt;
   closes = tt;
   stays = λ is. open_still old.text.buffer;
@@ -109,6 +111,7 @@ none_answers (Line limit) old was live can none joined = record {
   moves = record { settings = refl; life_is = refl; place = none_moves (Line limit) (place_now old) old.text.buffer.place none; written = tt };
   joined = joined;
   owes = owes_none (over_of old) (call_of (Line limit)) (over_of old) tt (passes_none old.text.buffer.raw (all_owed (over_of old)));
+  lays = lays_still (over_of old) _;
   starves = tt;
   closes = tt;
   stays = λ is. open_still old.text.buffer;

@@ -21,14 +21,15 @@ use Rattle.py_held_text.specs.declared.wanted.Wanted.TheVariants.{Characters, Li
 use Rattle.py_read_text.specs.Reading.{call_of, asks_none}
 use Rattle.py_read_text.proofs.Steps.{accepts}
 use Rattle.py_read_text.specs.TextState.{TextState}
-use Rattle.py_read_text.specs.Owing.{all_owed, PassesOwed, given_by, WriteMovesBy, OwesOn, own_from, GaveOwn, Starves, KeepsOpen, Closes}
+use Rattle.py_read_text.specs.Owing.{all_owed, PassesOwed, given_by, WriteMovesBy, OwesOn, own_from, GaveOwn, Starves, KeepsOpen, Closes, IsJoined, LaysOwed}
 use Rattle.py_read_text.proofs.Owing.{has_own, passes_then, passes_behind, open_then, owing_then}
 use Rattle.py_read_text.specs.Ahead.{AsksAsNeeded, starts_at, ReadsNoFurther}
 use Rattle.py_read_text.specs.Answers.{calls_nothing, passes_on, gives_text, LifeMoves, PlaceMoves, WriteMoves, settings_after, IsReplyTo, WantsMemory, closes_again, TextPasses, Answers}
 use Rattle.py_read_text.specs.Knowing.{place_of}
-use Rattle.py_textio.specs.Written.{WrittenView, behind_owed, place_now, over_of, state_of, file_now, CallsBuffer, HandsOn, SettleOutcome}
+use Rattle.py_textio.specs.Written.{WrittenView, behind_owed, place_now, over_of, state_of, file_now, CallsBuffer, HandsOnBut, HandsOn, SettleOutcome}
 use Rattle.py_textio.specs.Working.{Works}
 use Rattle.py_textio.proofs.Working.{answers_work}
+use Rattle.py_read_text.proofs.Fronts.{lays_on}
 
 -- The buffer, called twice.
 
@@ -60,7 +61,7 @@ same_file old mid can current bytes place settings =
     ∙ (ap (λ (own : TextSettings). let file : TextFile = record { bytes = (file_now old).bytes; place = place_now old; can = old.text.buffer.can; settings = own; life = mid.life } in file) settings
     ∙ ap (λ (own : Life). let file : TextFile = record { bytes = (file_now old).bytes; place = place_now old; can = old.text.buffer.can; settings = old.text.settings; life = own } in file) current)))
 
-pub handed_file : (old mid : WrittenView) (waited faulted : Bool) → HandsOn old waited faulted mid → mid.life ≡ old.life → WhereShown old.text.buffer (file_now mid ≡ file_now old)
+pub handed_file : {given : List ℕ} → (old mid : WrittenView) (waited faulted : Bool) → HandsOnBut given old waited faulted mid → mid.life ≡ old.life → WhereShown old.text.buffer (file_now mid ≡ file_now old)
 handed_file old mid waited faulted hands current = λ told. same_file old mid hands.calls.keeps.can current (hands.bytes told) hands.place hands.settings
 
 same_writes : (old mid : WrittenView) → mid.text.buffer.can ≡ old.text.buffer.can → mid.text.buffer.can.writable ≡ old.text.buffer.can.writable
@@ -121,8 +122,8 @@ needs_over old mid new call short hands current stood there needs told =
     (subst (λ (settings : TextSettings). AsksAsNeeded (file_now mid) call settings.chunk_size (starts_at (state_of old false)) new.text.buffer.place) hands.settings
     (subst (λ (at : ℕ). AsksAsNeeded (file_now mid) call mid.text.settings.chunk_size at new.text.buffer.place) start (needs (tells_still old.text.buffer.raw mid.text.buffer.raw hands.calls.keeps.raw ∙ told))))
 
-pub answers_over : (old mid : WrittenView) (call : TextFileCall) (reply : FileReply) (new : WrittenView) (short : Bool) → old.text.buffer.can.writable ≡ true → old.life ≡ life.Live → mid.life ≡ life.Live → HandsOn old false false mid → mid.pending ≡ [] → passes_on old.pending call ≡ true → old.pending ≢ [] → calls_nothing call ≡ false → closes_again life.Live call ≡ false → refusal (file_now old) call ≡ None → (refusal (file_now mid) call ≡ None) → WriteMoves old.text.settings call reply (place_now old) (place_now new) → TextPasses (state_of old false) call reply (state_of new short) → WantsMemory call reply old.text.buffer → Closes old.life call old.text.buffer reply new.text.buffer → (gives_text call ≡ true → ReadsNoFurther (state_of old false) call (state_of new short)) → Answers (state_of mid false) call reply (state_of new short) → Works old call reply new short
-answers_over old mid call reply new short writes live lives hands none busy owes some once accepted still written passes wants closes needs answers =
+pub answers_over : (old mid : WrittenView) (call : TextFileCall) (reply : FileReply) (new : WrittenView) (short : Bool) → IsJoined (over_of old) → IsJoined (over_of mid) → old.text.buffer.can.writable ≡ true → old.life ≡ life.Live → mid.life ≡ life.Live → HandsOn old false false mid → mid.pending ≡ [] → passes_on old.pending call ≡ true → old.pending ≢ [] → calls_nothing call ≡ false → closes_again life.Live call ≡ false → refusal (file_now old) call ≡ None → (refusal (file_now mid) call ≡ None) → WriteMoves old.text.settings call reply (place_now old) (place_now new) → TextPasses (state_of old false) call reply (state_of new short) → WantsMemory call reply old.text.buffer → Closes old.life call old.text.buffer reply new.text.buffer → (gives_text call ≡ true → ReadsNoFurther (state_of old false) call (state_of new short)) → Answers (state_of mid false) call reply (state_of new short) → Works old call reply new short
+answers_over old mid call reply new short was is writes live lives hands none busy owes some once accepted still written passes wants closes needs answers =
     let can : mid.text.buffer.can ≡ old.text.buffer.can = hands.calls.keeps.can in
     let current : mid.life ≡ old.life = lives ∙ sym live in
     let mid_writes : mid.text.buffer.can.writable ≡ true = same_writes old mid can ∙ writes in
@@ -146,6 +147,8 @@ answers_over old mid call reply new short writes live lives hands none busy owes
       written = written;
       joined = answers.joined;
       owes = owes_behind (over_of old) (over_of mid) (over_of new) call hands.calls.keeps.raw hands.owes hands.settings hands.place answers.owes;
+      lays = subst (λ (own : TextSettings). LaysOwed (over_of old) (all_owed (over_of old) ++ given_by own call) (over_of new)) hands.settings
+          (lays_on (over_of old) (over_of mid) (over_of new) (given_by mid.text.settings call) was is (ap (λ (place : TextPlace). place.at) hands.place) hands.calls.keeps.raw hands.owes hands.bytes hands.lays answers.lays);
       starves = starves_behind old mid call reply (over_of new) hands owes none current answers.starves;
       closes = closes;
       stays = λ is. open_then old.text.buffer mid.text.buffer new.text.buffer hands.stays (answers.stays is);
@@ -194,11 +197,11 @@ busy_read [] asked some = absurd (some refl)
 busy_read (byte ∷ more) (Characters size) some = refl
 busy_read (byte ∷ more) (Line limit) some = refl
 
-pub read_over : (old mid new : WrittenView) (asked : Wanted) (reply : FileReply) (short : Bool) → old.text.buffer.can.writable ≡ true → old.life ≡ life.Live → old.text.at ≡ old.text.buffer.place → mid.text.at ≡ mid.text.buffer.place → old.pending ≢ [] → old.text.buffer.can.readable ≡ true → asks_none asked ≡ false → SettleOutcome old (Ok tt) mid → Answers (state_of mid false) (call_of asked) reply (state_of new short) → Answers (state_of old false) (call_of asked) reply (state_of new short)
-read_over old mid new asked reply short writes live stood there owes can some outcome answers =
+pub read_over : (old mid new : WrittenView) (asked : Wanted) (reply : FileReply) (short : Bool) → IsJoined (over_of old) → IsJoined (over_of mid) → old.text.buffer.can.writable ≡ true → old.life ≡ life.Live → old.text.at ≡ old.text.buffer.place → mid.text.at ≡ mid.text.buffer.place → old.pending ≢ [] → old.text.buffer.can.readable ≡ true → asks_none asked ≡ false → SettleOutcome old (Ok tt) mid → Answers (state_of mid false) (call_of asked) reply (state_of new short) → Answers (state_of old false) (call_of asked) reply (state_of new short)
+read_over old mid new asked reply short was is writes live stood there owes can some outcome answers =
     let hands = outcome.0 in
     let still : mid.text.buffer.can.readable ≡ true = ap (λ (own : Abilities). own.readable) hands.calls.keeps.can ∙ can in
-    answers_work old (call_of asked) reply new short (answers_over old mid (call_of asked) reply new short writes live outcome.2 hands outcome.1 (busy_read old.pending asked owes) owes (some_read asked some) (once_read asked) (accepts (file_now old) asked live can) (accepts (file_now mid) asked outcome.2 still) (unwritten_read asked old.text.settings reply (place_now old) (place_now new)) (unpassed_read asked (state_of old false) reply (state_of new short)) (unwanted_read asked reply old.text.buffer) (unclosed_read asked old.life old.text.buffer reply new.text.buffer) (λ gives. needs_over old mid new (call_of asked) short hands (outcome.2 ∙ sym live) stood there (answers.needs gives)) answers)
+    answers_work old (call_of asked) reply new short (answers_over old mid (call_of asked) reply new short was is writes live outcome.2 hands outcome.1 (busy_read old.pending asked owes) owes (some_read asked some) (once_read asked) (accepts (file_now old) asked live can) (accepts (file_now mid) asked outcome.2 still) (unwritten_read asked old.text.settings reply (place_now old) (place_now new)) (unpassed_read asked (state_of old false) reply (state_of new short)) (unwanted_read asked reply old.text.buffer) (unclosed_read asked old.life old.text.buffer reply new.text.buffer) (λ gives. needs_over old mid new (call_of asked) short hands (outcome.2 ∙ sym live) stood there (answers.needs gives)) answers)
 
 busy_other : (owed : List ℕ) (call : TextFileCall) → owed ≢ [] → passes_on owed call ≡ true
 busy_other [] call some = absurd (some refl)
@@ -221,12 +224,12 @@ passes_close old mid reply after lives passes = grind arith
 passes_flush : (old mid : TextState) (reply : FileReply) (after : TextState) → TextPasses mid Flush reply after → TextPasses old Flush reply after
 passes_flush old mid reply after passes = grind arith
 
-pub flush_over : (old mid new : WrittenView) (reply : FileReply) (short : Bool) → old.text.buffer.can.writable ≡ true → old.life ≡ life.Live → old.pending ≢ [] → SettleOutcome old (Ok tt) mid → Answers (state_of mid false) Flush reply (state_of new short) → Answers (state_of old false) Flush reply (state_of new short)
-flush_over old mid new reply short writes live owes outcome answers =
+pub flush_over : (old mid new : WrittenView) (reply : FileReply) (short : Bool) → IsJoined (over_of old) → IsJoined (over_of mid) → old.text.buffer.can.writable ≡ true → old.life ≡ life.Live → old.pending ≢ [] → SettleOutcome old (Ok tt) mid → Answers (state_of mid false) Flush reply (state_of new short) → Answers (state_of old false) Flush reply (state_of new short)
+flush_over old mid new reply short was is writes live owes outcome answers =
     let hands = outcome.0 in
-    answers_work old Flush reply new short (answers_over old mid Flush reply new short writes live outcome.2 hands outcome.1 (busy_other old.pending Flush owes) owes refl refl (rw live refl) (rw outcome.2 refl) tt (passes_flush (state_of old false) (state_of mid false) reply (state_of new short) answers.passes) (wants_flush old.text.buffer mid.text.buffer reply hands.calls.keeps answers.wants) tt (λ gives. absurd (cc)) answers)
+    answers_work old Flush reply new short (answers_over old mid Flush reply new short was is writes live outcome.2 hands outcome.1 (busy_other old.pending Flush owes) owes refl refl (rw live refl) (rw outcome.2 refl) tt (passes_flush (state_of old false) (state_of mid false) reply (state_of new short) answers.passes) (wants_flush old.text.buffer mid.text.buffer reply hands.calls.keeps answers.wants) tt (λ gives. absurd (cc)) answers)
 
-pub close_over : (old mid new : WrittenView) (reply : FileReply) (short : Bool) → old.text.buffer.can.writable ≡ true → old.life ≡ life.Live → old.pending ≢ [] → SettleOutcome old (Ok tt) mid → Answers (state_of mid false) Close reply (state_of new short) → Answers (state_of old false) Close reply (state_of new short)
-close_over old mid new reply short writes live owes outcome answers =
+pub close_over : (old mid new : WrittenView) (reply : FileReply) (short : Bool) → IsJoined (over_of old) → IsJoined (over_of mid) → old.text.buffer.can.writable ≡ true → old.life ≡ life.Live → old.pending ≢ [] → SettleOutcome old (Ok tt) mid → Answers (state_of mid false) Close reply (state_of new short) → Answers (state_of old false) Close reply (state_of new short)
+close_over old mid new reply short was is writes live owes outcome answers =
     let hands = outcome.0 in
-    answers_work old Close reply new short (answers_over old mid Close reply new short writes live outcome.2 hands outcome.1 (busy_other old.pending Close owes) owes refl refl (rw live refl) (rw outcome.2 refl) tt (passes_close (state_of old false) (state_of mid false) reply (state_of new short) outcome.2 answers.passes) (wants_close old.text.buffer mid.text.buffer reply hands.calls.keeps answers.wants) (closes_behind mid.life old.life reply old.text.buffer mid.text.buffer new.text.buffer outcome.2 hands.stays answers.closes) (λ gives. absurd (cc)) answers)
+    answers_work old Close reply new short (answers_over old mid Close reply new short was is writes live outcome.2 hands outcome.1 (busy_other old.pending Close owes) owes refl refl (rw live refl) (rw outcome.2 refl) tt (passes_close (state_of old false) (state_of mid false) reply (state_of new short) outcome.2 answers.passes) (wants_close old.text.buffer mid.text.buffer reply hands.calls.keeps answers.wants) (closes_behind mid.life old.life reply old.text.buffer mid.text.buffer new.text.buffer outcome.2 hands.stays answers.closes) (λ gives. absurd (cc)) answers)

@@ -17,7 +17,7 @@ use Rattle.py_plain_text.specs.TextExact.{with_chunk_size}
 use Rattle.py_plain_text.specs.TextAllowed.{SettledBy, TextFileStep}
 use Rattle.py_raw.proofs.Telling.{keeps_same}
 use Rattle.py_stream.specs.Kinds.{says_fault}
-use Rattle.py_stream.specs.Replies.{count_reply}
+use Rattle.py_stream.specs.Replies.{count_reply, done_reply}
 use Rattle.py_stream.specs.Buffer.{Buffer}
 use Rattle.py_held_text.specs.declared.wanted.Wanted.{Wanted}
 use Rattle.py_held_text.specs.declared.wanted.Wanted.TheVariants.{Characters, Line}
@@ -27,6 +27,7 @@ use Rattle.py_read_text.specs.Answers.{IsShort, PlaceMoves, WriteMoves, LifeMove
 use Rattle.py_read_text.specs.Reading.{call_of}
 use Rattle.py_read_text.proofs.Owing.{passes_none, moves_none, owes_none, open_still}
 use Rattle.py_textio.specs.Written.{WrittenView, place_now, over_of, state_of, file_now}
+use Rattle.py_read_text.proofs.Fronts.{lays_still}
 
 whole_refused : (why : IoFault) → blames why ≡ false → IsShort (Refused why) false
 whole_refused (fault.WouldBlock taken) own = absurd (cc)
@@ -108,6 +109,7 @@ refused text was call why is own once joined =
       moves = record { settings = settings_refused call why text.text.settings; life_is = life_refused text.text.buffer.can.writable call why text.life own; place = place_refused call why (place_now text) text.text.buffer.place; written = written_refused text.text.settings call why (place_now text) own };
       joined = joined;
       owes = owes_none (over_of text) call (over_of text) (moves_none call (place_now text).at) (passes_none text.text.buffer.raw (all_owed (over_of text)));
+      lays = lays_still (over_of text) _;
       starves = starves_refused (over_of text) call why;
       closes = closes_refused text.life call why text.text.buffer;
       stays = λ is. open_still text.text.buffer;
@@ -232,6 +234,7 @@ closed_again now text was same is joined =
       moves = record { settings = refl; life_is = is; place = refl; written = tt };
       joined = joined;
       owes = owes_none (over_of text) Close (over_of text) tt (passes_none text.text.buffer.raw (all_owed (over_of text)));
+      lays = lays_still (over_of text) _;
       starves = tt;
       closes = λ live. let never : life.Closed ≡ life.Live = sym is ∙ live in absurd (cc);
       stays = λ not. absurd (cc);
@@ -303,6 +306,7 @@ chunks_so now text new was size same live some joined is =
       moves = record { settings = refl; life_is = refl; place = refl; written = tt };
       joined = joined;
       owes = owes_none (over_of text) (SetChunkSize size) (over_of (with_chunk text size)) tt (passes_none text.text.buffer.raw (all_owed (over_of text)));
+      lays = lays_still (over_of text) _;
       starves = tt;
       closes = tt;
       stays = λ is. open_still text.text.buffer;
@@ -375,6 +379,7 @@ over_short now text was call reply after same passes answers = subst (λ (before
   moves = record { settings = answers.moves.settings; life_is = answers.moves.life_is; place = answers.moves.place; written = answers.moves.written };
   joined = answers.joined;
   owes = answers.owes;
+  lays = answers.lays;
   starves = answers.starves;
   answer = answers.answer;
   complete = answers.complete;
@@ -401,3 +406,7 @@ passes_read (Line limit) before reply after = tt
 pub passes_write : (text : WrittenView) (was : Bool) (written : List ℕ) (result : Result ℕ IoFault) (after : TextState) → TextPasses (state_of text false) (WriteText written) (count_reply result) after → TextPasses (state_of text was) (WriteText written) (count_reply result) after
 passes_write text was written (Ok count) after passes = passes
 passes_write text was written (Err why) after passes = tt
+
+pub passes_closing : (text : WrittenView) (was : Bool) (result : Result (Unit {0}) IoFault) (after : TextState) → TextPasses (state_of text false) Close (done_reply result) after → TextPasses (state_of text was) Close (done_reply result) after
+passes_closing text was (Ok done) after passes = passes
+passes_closing text was (Err why) after passes = tt

@@ -1,6 +1,6 @@
 -- What is owed is handed on, and the text stays as it is.
 use Rattle.std.proofs.Common.{◌≡◌, ◌≢◌, ℕ, ◌+◌, ◌-◌, ◌<◌, ◌≤◌, inl, inr, ◌⊎◌, nat_eq, ◌&&◌, Bool, true, false, List, [], ◌∷◌, ◌++◌, length, take, drop, Option, None, Some, Result, Ok, Err, refl, sym, ap, ◌∙◌, subst, arith, append-nil}
-use Rattle.std.proofs.lemmas.List.{length-drop, drop_all}
+use Rattle.std.proofs.lemmas.List.{length-drop, drop_all, length-append}
 use Rattle.py_flat.specs.declared.fault.IoFault.{IoFault}
 use Rattle.py_flat.specs.declared.fault.IoFault.TheVariants as fault
 use Rattle.py_flat.specs.declared.life.Life.{Life}
@@ -20,13 +20,13 @@ use Rattle.py_stream.specs.Kinds.{says_fault, says_wait}
 use Rattle.py_stream.specs.Replies.{count_reply}
 use Rattle.py_stream.specs.Answers.{TakesOf, LifeMoves, PlaceStarves}
 use Rattle.py_stream.specs.Stream.{Stream}
-use Rattle.py_stream.specs.Writing.{Takes, TookOwn}
-use Rattle.py_stream.specs.Buffer.{Buffer, WhereShown, flat_of, size_shown, stream_shown, AnswersAsBuffer}
+use Rattle.py_stream.specs.Writing.{Takes, TookOwn, OwesUpTo}
+use Rattle.py_stream.specs.Buffer.{Buffer, WhereShown, flat_of, size_shown, stream_shown, AnswersAsBuffer, BufferLays}
 use Rattle.py_plain_text.specs.TextCalls.{TextFileCall}
 use Rattle.py_read_text.specs.TextState.{TextState}
 use Rattle.py_read_text.specs.Answers.{further, Answers}
 use Rattle.py_read_text.specs.Knowing.{TextView, place_of, over_of as read_of, state_of as read_state}
-use Rattle.py_read_text.specs.Owing.{all_owed, IsJoined, PassesOwed, own_from, stream_from, GaveOwn}
+use Rattle.py_read_text.specs.Owing.{all_owed, IsJoined, PassesOwed, own_from, stream_from, GaveOwn, all_from, LaysFront, LaysOwed}
 use Rattle.py_read_text.specs.Reading.{KeepsPlace}
 use Rattle.py_read_text.specs.Writing.{unit_of, StandsBehind, LeavesFlat, ReturnOutcome}
 use Rattle.py_raw.proofs.Telling.{keeps_same, tells_still}
@@ -35,6 +35,7 @@ use Rattle.py_read_text.proofs.Calling.{all_passed, accepts_flush}
 use Rattle.py_read_text.proofs.Owing.{passes_none, passes_then, passes_behind, front_passes, takes_passed, open_still, open_then, open_of, open_called}
 use Rattle.py_textio.proofs.Over.{calls_on}
 use Rattle.py_textio.specs.Written.{WrittenView, behind_owed, place_now, over_of, state_of, CallsBuffer, HandsOn, StandsToWrite, TakesNothing, LetsGo, IsWritten, SettleOutcome, BackOutcome, PassOutcome, HandOutcome, with_taken}
+use Rattle.py_read_text.proofs.Fronts.{lays_none, lays_both, lays_alone, lays_owed, lays_on, lays_still}
 
 -- The place of a text that owes bytes.
 
@@ -83,8 +84,18 @@ calls_so before after bytes reply answers = record {
   stands = λ stood. answers.stands;
 }
 
-pub hands_so : (old new : WrittenView) (reply : FileReply) → AnswersAsBuffer old.text.buffer (Write old.pending) reply new.text.buffer → Takes (stream_shown old.text.buffer) old.pending (stream_shown new.text.buffer) → StandsToWrite old.text → StandsBehind old.text new.text → new.pending ≡ drop new.text.buffer.taken old.pending → old.text.buffer.life ≡ life.Live → (new.text.buffer.life ≡ life.Live) ⊎ (new.text.buffer.life ≡ life.Failed) → HandsOn old new.text.buffer.short (says_fault reply) new
-hands_so old new reply answers takes was stands left live after =
+written_from : (view : WrittenView) → StandsToWrite view.text → all_from (over_of view) ≡ view.text.buffer.place - length view.text.buffer.owed.bytes
+written_from view stands = omega (arith, ap (λ (place : TextPlace). place.at) (clean_place view.text view.pending stands), length-append view.text.buffer.owed.bytes view.pending)
+
+-- a front is laid on of what the buffer owed and of what it was handed
+handed_lays : (old new : WrittenView) → StandsToWrite old.text → OwesUpTo old.text.buffer.owed old.text.buffer.place → WhereShown old.text.buffer (BufferLays old.text.buffer old.pending new.text.buffer.raw.bytes) → LaysOwed (over_of old) (all_owed (over_of old) ++ []) (over_of new)
+handed_lays old new was ends lays = λ told.
+    subst (λ (owed : List ℕ). LaysFront old.text.buffer.raw.bytes (all_from (over_of old)) owed new.text.buffer.raw.bytes) (sym (append-nil (all_owed (over_of old))))
+    (subst (λ (from : ℕ). LaysFront old.text.buffer.raw.bytes from (all_owed (over_of old)) new.text.buffer.raw.bytes) (sym (written_from old was))
+    (lays_both old.text.buffer.raw.bytes old.text.buffer.owed old.text.buffer.place old.pending new.text.buffer.raw.bytes ends (lays told)))
+
+pub hands_so : (old new : WrittenView) (reply : FileReply) → OwesUpTo old.text.buffer.owed old.text.buffer.place → AnswersAsBuffer old.text.buffer (Write old.pending) reply new.text.buffer → Takes (stream_shown old.text.buffer) old.pending (stream_shown new.text.buffer) → StandsToWrite old.text → StandsBehind old.text new.text → new.pending ≡ drop new.text.buffer.taken old.pending → old.text.buffer.life ≡ life.Live → (new.text.buffer.life ≡ life.Live) ⊎ (new.text.buffer.life ≡ life.Failed) → HandsOn old new.text.buffer.short (says_fault reply) new
+hands_so old new reply ends answers takes was stands left live after =
     let taken = taken_so old.text.buffer new.text.buffer old.pending reply answers takes in
     let size : new.text.buffer.place + length new.pending ≡ old.text.buffer.place + length old.pending = omega (arith, ap length left, length-drop new.text.buffer.taken old.pending, taken, takes.within, takes.place) in
     record {
@@ -93,6 +104,7 @@ hands_so old new reply answers takes was stands left live after =
       place = clean_place new.text new.pending (stands.clean, stands.at) ∙ (ap (λ (at : ℕ). clean_at at Unknown) size ∙ sym (clean_place old.text old.pending was));
       settings = stands.settings;
       owes = subst (λ (own : List ℕ). PassesOwed old.text.buffer.raw (old.text.buffer.owed.bytes ++ old.pending) new.text.buffer.raw (new.text.buffer.owed.bytes ++ own)) (sym left) (takes_passed old.text.buffer new.text.buffer old.pending new.text.buffer.taken takes taken);
+      lays = handed_lays old new was ends answers.lays;
       stays = open_of old.text.buffer new.text.buffer live after (answers.stays refl);
     }
 
@@ -152,25 +164,25 @@ none_taken before after bytes takes place =
     }
 
 -- what was written is handed on, or what isn't taken is owed still
-pub settled_so : (old new : WrittenView) (result : Result ℕ IoFault) → old.life ≡ life.Live → AnswersAsBuffer old.text.buffer (Write old.pending) (count_reply result) new.text.buffer → Takes (stream_shown old.text.buffer) old.pending (stream_shown new.text.buffer) → StandsToWrite old.text → StandsBehind old.text new.text → new.pending ≡ drop new.text.buffer.taken old.pending → old.text.buffer.can.writable ≡ true → old.text.buffer.life ≡ life.Live → old.text.buffer.exported ≡ false → old.text.buffer.place + length old.pending ≤ greatest_place → new.life ≡ new.text.buffer.life → SettleOutcome old (unit_of result) new
-settled_so old new (Ok count) live answers takes was stands left writes lives kept far current =
+pub settled_so : (old new : WrittenView) (result : Result ℕ IoFault) → OwesUpTo old.text.buffer.owed old.text.buffer.place → old.life ≡ life.Live → AnswersAsBuffer old.text.buffer (Write old.pending) (count_reply result) new.text.buffer → Takes (stream_shown old.text.buffer) old.pending (stream_shown new.text.buffer) → StandsToWrite old.text → StandsBehind old.text new.text → new.pending ≡ drop new.text.buffer.taken old.pending → old.text.buffer.can.writable ≡ true → old.text.buffer.life ≡ life.Live → old.text.buffer.exported ≡ false → old.text.buffer.place + length old.pending ≤ greatest_place → new.life ≡ new.text.buffer.life → SettleOutcome old (unit_of result) new
+settled_so old new (Ok count) ends live answers takes was stands left writes lives kept far current =
     let short : new.text.buffer.short ≡ false = answers.shorts in
-    (subst (λ (waited : Bool). HandsOn old waited false new) short (hands_so old new (Count count) answers takes was stands left lives (inl (answers.moves.life_is ∙ lives))), all_taken old new count answers left, current ∙ (answers.moves.life_is ∙ lives))
-settled_so old new (Err (fault.WouldBlock taken)) live answers takes was stands left writes lives kept far current =
+    (subst (λ (waited : Bool). HandsOn old waited false new) short (hands_so old new (Count count) ends answers takes was stands left lives (inl (answers.moves.life_is ∙ lives))), all_taken old new count answers left, current ∙ (answers.moves.life_is ∙ lives))
+settled_so old new (Err (fault.WouldBlock taken)) ends live answers takes was stands left writes lives kept far current =
     let short : new.text.buffer.short ≡ true = answers.shorts in
     let count : new.text.buffer.taken ≡ taken = omega (arith, answers.moves.place.1, answers.taken) in (
-      subst (λ (waited : Bool). HandsOn old waited false new) short (hands_so old new (Refused (fault.WouldBlock taken)) answers takes was stands left lives (inl (answers.moves.life_is ∙ lives))),
+      subst (λ (waited : Bool). HandsOn old waited false new) short (hands_so old new (Refused (fault.WouldBlock taken)) ends answers takes was stands left lives (inl (answers.moves.life_is ∙ lives))),
       (λ none. some_left new.text.buffer.taken old.pending (omega (arith, count, answers.moves.place.0)) (sym left ∙ none)),
       current ∙ (answers.moves.life_is ∙ lives),
       writes,
       answers.full,
     )
-settled_so old new (Err fault.RawFault) live answers takes was stands left writes lives kept far current =
+settled_so old new (Err fault.RawFault) ends live answers takes was stands left writes lives kept far current =
     let short : new.text.buffer.short ≡ false = answers.shorts in
-    (subst (λ (waited : Bool). HandsOn old waited true new) short (hands_so old new (Refused fault.RawFault) answers takes was stands left lives (inr answers.moves.life_is)), current ∙ answers.moves.life_is)
-settled_so old new (Err fault.NoMemory) live answers takes was stands left writes lives kept far current =
+    (subst (λ (waited : Bool). HandsOn old waited true new) short (hands_so old new (Refused fault.RawFault) ends answers takes was stands left lives (inr answers.moves.life_is)), current ∙ answers.moves.life_is)
+settled_so old new (Err fault.NoMemory) ends live answers takes was stands left writes lives kept far current =
     let short : new.text.buffer.short ≡ false = answers.shorts in
-    (subst (λ (waited : Bool). HandsOn old waited false new) short (hands_so old new (Refused fault.NoMemory) answers takes was stands left lives (alive (starves_write old.text.buffer.buffering old.pending old.text.buffer.life new.text.buffer.life answers.moves.life_is))), answers.wants refl refl, starved (starves_write old.text.buffer.buffering old.pending old.text.buffer.life new.text.buffer.life answers.moves.life_is))
+    (subst (λ (waited : Bool). HandsOn old waited false new) short (hands_so old new (Refused fault.NoMemory) ends answers takes was stands left lives (alive (starves_write old.text.buffer.buffering old.pending old.text.buffer.life new.text.buffer.life answers.moves.life_is))), answers.wants refl refl, starved (starves_write old.text.buffer.buffering old.pending old.text.buffer.life new.text.buffer.life answers.moves.life_is))
   where
     alive : (new.text.buffer.life ≡ old.text.buffer.life) ⊎ (new.text.buffer.life ≡ life.Failed) → (new.text.buffer.life ≡ life.Live) ⊎ (new.text.buffer.life ≡ life.Failed)
     alive (inl same) = inl (same ∙ lives)
@@ -190,7 +202,7 @@ settled_so old new (Err fault.NoMemory) live answers takes was stands left write
           flat = λ told. starves_flat (flat_of old.text.buffer) (flat_of new.text.buffer) old.pending new.text.buffer.short lives_on (answers.told (rw kept refl) told);
           owes = none_taken old.text.buffer new.text.buffer old.pending takes place;
         })
-settled_so old new (Err other) live answers takes was stands left writes lives kept far current = absurd (answers.answer (accepts_write old.text.buffer old.pending lives writes kept far).0)
+settled_so old new (Err other) ends live answers takes was stands left writes lives kept far current = absurd (answers.answer (accepts_write old.text.buffer old.pending lives writes kept far).0)
 
 -- What holds of every text, after its buffer took some of what it owed.
 
@@ -235,7 +247,7 @@ pub settled_at : (now : WrittenView) (old new : TextView) (pending left : List �
 settled_at now old new pending left room more before after result same is some live answers takes stands left_is current =
     let lives : before ≡ life.Live = ap (λ (view : WrittenView). view.life) same ∙ live in
     subst (λ (view : WrittenView). SettleOutcome view (unit_of result) (view_of new left more after)) same
-    (settled_so (view_of old pending room before) (view_of new left more after) result lives answers takes (stands_so old pending before is some) stands left_is (writes_so old pending before is some) (is.lives lives) is.kept is.far current)
+    (settled_so (view_of old pending room before) (view_of new left more after) result is.joined.below lives answers takes (stands_so old pending before is some) stands left_is (writes_so old pending before is some) (is.lives lives) is.kept is.far current)
 
 -- what a text and its buffer owe stands in one piece
 pub joined_with : (text : TextView) (pending : List ℕ) (room : ℕ) (current : Life) → IsWritten text pending current → IsJoined (over_of (view_of text pending room current))
@@ -284,6 +296,7 @@ hands_back old new pending room more before after faulted is place there leaves 
   place = ap (λ (own : TextPlace). behind_owed own pending) (kept_place old new place);
   settings = place.settings;
   owes = record { passed = 0; most = omega arith; answered = leaves.answered; rest = ap (λ (owed : List ℕ). owed ++ pending) leaves.owed };
+  lays = λ told. lays_none old.buffer.raw.bytes (all_from (over_of (view_of old pending room before))) _ new.buffer.raw.bytes (leaves.raw_bytes told);
   stays = open_called old.buffer new.buffer faulted live leaves.life_is leaves.stays;
 }
 
@@ -296,6 +309,7 @@ went_back now old new pending room more before after same is live place outcome 
       hands = hands_back old new pending room more before after false is place (inl outcome.0) outcome.1 (is.lives lives);
       owed = outcome.1.owed;
       answered = outcome.1.answered;
+      raw_bytes = outcome.1.raw_bytes;
       lives = current ∙ lives;
       pending = refl;
       stands = (record { taken = place.taken ∙ is.clean clean; dirty = place.dirty ∙ clean }, outcome.0);
@@ -352,6 +366,7 @@ hands_itself view = record {
   place = refl;
   settings = refl;
   owes = passes_none view.text.buffer.raw (all_owed (over_of view));
+  lays = lays_still (over_of view) _;
   stays = open_still view.text.buffer;
 }
 
@@ -367,8 +382,8 @@ flush_calls before after reply answers = record {
   stands = λ stood. answers.stands;
 }
 
-hands_flush : (old new : TextView) (pending : List ℕ) (room more : ℕ) (before after : Life) (reply : FileReply) → pending ≡ [] → old.buffer.exported ≡ false → KeepsPlace old new → AnswersAsBuffer old.buffer Flush reply new.buffer → old.buffer.life ≡ life.Live → (new.buffer.life ≡ life.Live) ⊎ (new.buffer.life ≡ life.Failed) → HandsOn (view_of old pending room before) new.buffer.short (says_fault reply) (view_of new pending more after)
-hands_flush old new pending room more before after reply none kept place answers live lives = record {
+hands_flush : (old new : TextView) (pending : List ℕ) (room more : ℕ) (before after : Life) (reply : FileReply) → IsJoined (over_of (view_of old pending room before)) → pending ≡ [] → old.buffer.exported ≡ false → KeepsPlace old new → AnswersAsBuffer old.buffer Flush reply new.buffer → old.buffer.life ≡ life.Live → (new.buffer.life ≡ life.Live) ⊎ (new.buffer.life ≡ life.Failed) → HandsOn (view_of old pending room before) new.buffer.short (says_fault reply) (view_of new pending more after)
+hands_flush old new pending room more before after reply was none kept place answers live lives = record {
   calls = flush_calls old.buffer new.buffer reply answers;
   bytes = λ told.
       ap (λ (owed : List ℕ). lay (flat_of new.buffer).bytes new.buffer.place owed) none
@@ -377,6 +392,7 @@ hands_flush old new pending room more before after reply none kept place answers
   place = ap (λ (own : TextPlace). behind_owed own pending) (kept_place old new place);
   settings = place.settings;
   owes = passes_behind old.buffer.raw new.buffer.raw old.buffer.owed.bytes new.buffer.owed.bytes pending (front_passes old.buffer new.buffer answers.owes);
+  lays = λ told. lays_owed (over_of (view_of old pending room before)) [] new.buffer.raw.bytes was (lays_alone old.buffer new.buffer was.below answers.lays told);
   stays = open_of old.buffer new.buffer live lives (answers.stays refl);
 }
 
@@ -386,7 +402,7 @@ passed_all now old new pending room more count before after flushes same is live
     let live_buffer : old.buffer.life ≡ life.Live = is.lives (ap (λ (view : WrittenView). view.life) same ∙ live) in
     let short : new.buffer.short ≡ false = answers.shorts in
     let asks : 0 < new.settings.chunk_size = subst (λ (settings : TextSettings). 0 < settings.chunk_size) (sym place.settings) is.asks in (
-      subst (λ (view : WrittenView). HandsOn view false false (view_of new pending more after)) same (subst (λ (waited : Bool). HandsOn (view_of old pending room before) waited false (view_of new pending more after)) short (hands_flush old new pending room more before after Done none is.kept place answers live_buffer (inl (answers.moves.life_is ∙ live_buffer)))),
+      subst (λ (view : WrittenView). HandsOn view false false (view_of new pending more after)) same (subst (λ (waited : Bool). HandsOn (view_of old pending room before) waited false (view_of new pending more after)) short (hands_flush old new pending room more before after Done (joined_with old pending room before is) none is.kept place answers live_buffer (inl (answers.moves.life_is ∙ live_buffer)))),
       lives,
       record { few = omega (arith, ap length none, asks); none = λ through. none },
       λ flushed. record { own = none; none = answers.passes.0.none; holds = λ told. all_passed new.buffer answers.passes.0.none ∙ sym (ap (λ (owed : List ℕ). lay (flat_of new.buffer).bytes new.buffer.place owed) none) },
@@ -398,7 +414,7 @@ passed_blocked now old new pending room more count taken before after flushes sa
     let none : pending ≡ [] = ap (λ (view : WrittenView). view.pending) same ∙ owes in
     let live_buffer : old.buffer.life ≡ life.Live = is.lives (ap (λ (view : WrittenView). view.life) same ∙ live) in
     let short : new.buffer.short ≡ true = answers.shorts in (
-      subst (λ (view : WrittenView). HandsOn view true false (view_of new pending more after)) same (subst (λ (waited : Bool). HandsOn (view_of old pending room before) waited false (view_of new pending more after)) short (hands_flush old new pending room more before after (Refused (fault.WouldBlock taken)) none is.kept place answers live_buffer (inl (answers.moves.life_is ∙ live_buffer)))),
+      subst (λ (view : WrittenView). HandsOn view true false (view_of new pending more after)) same (subst (λ (waited : Bool). HandsOn (view_of old pending room before) waited false (view_of new pending more after)) short (hands_flush old new pending room more before after (Refused (fault.WouldBlock taken)) (joined_with old pending room before is) none is.kept place answers live_buffer (inl (answers.moves.life_is ∙ live_buffer)))),
       lives,
       refl,
       record { full = λ some. absurd (some none); some = λ gives own. answers.full.1 },
@@ -415,25 +431,26 @@ passed_failed now old new pending room more count before after flushes fault.Raw
     let none : pending ≡ [] = ap (λ (view : WrittenView). view.pending) same ∙ owes in
     let live_buffer : old.buffer.life ≡ life.Live = is.lives (ap (λ (view : WrittenView). view.life) same ∙ live) in
     let short : new.buffer.short ≡ false = answers.shorts in
-    (subst (λ (view : WrittenView). HandsOn view false true (view_of new pending more after)) same (subst (λ (waited : Bool). HandsOn (view_of old pending room before) waited true (view_of new pending more after)) short (hands_flush old new pending room more before after (Refused fault.RawFault) none is.kept place answers live_buffer (inr answers.moves.life_is))), failed)
+    (subst (λ (view : WrittenView). HandsOn view false true (view_of new pending more after)) same (subst (λ (waited : Bool). HandsOn (view_of old pending room before) waited true (view_of new pending more after)) short (hands_flush old new pending room more before after (Refused fault.RawFault) (joined_with old pending room before is) none is.kept place answers live_buffer (inr answers.moves.life_is))), failed)
 passed_failed now old new pending room more count before after flushes fault.NoMemory same is live owes flushed place answers calm failed =
     let none : pending ≡ [] = ap (λ (view : WrittenView). view.pending) same ∙ owes in
     let live_buffer : old.buffer.life ≡ life.Live = is.lives (ap (λ (view : WrittenView). view.life) same ∙ live) in
     let short : new.buffer.short ≡ false = answers.shorts in (
-      subst (λ (view : WrittenView). HandsOn view false false (view_of new pending more after)) same (subst (λ (waited : Bool). HandsOn (view_of old pending room before) waited false (view_of new pending more after)) short (hands_flush old new pending room more before after (Refused fault.NoMemory) none is.kept place answers live_buffer (inl (answers.moves.life_is ∙ live_buffer)))),
+      subst (λ (view : WrittenView). HandsOn view false false (view_of new pending more after)) same (subst (λ (waited : Bool). HandsOn (view_of old pending room before) waited false (view_of new pending more after)) short (hands_flush old new pending room more before after (Refused fault.NoMemory) (joined_with old pending room before is) none is.kept place answers live_buffer (inl (answers.moves.life_is ∙ live_buffer)))),
       failed,
       flushed,
       none,
     )
 passed_failed now old new pending room more count before after flushes other same is live owes flushed place answers calm failed = absurd (answers.answer (accepts_flush old.buffer (is.lives (ap (λ (view : WrittenView). view.life) same ∙ live)) is.kept))
 
-pub hands_on : (old mid new : WrittenView) (waited faulted : Bool) → HandsOn old false false mid → HandsOn mid waited faulted new → HandsOn old waited faulted new
-hands_on old mid new waited faulted first second = record {
+pub hands_on : (old mid new : WrittenView) (waited faulted : Bool) → IsJoined (over_of old) → IsJoined (over_of mid) → HandsOn old false false mid → HandsOn mid waited faulted new → HandsOn old waited faulted new
+hands_on old mid new waited faulted was is first second = record {
   calls = calls_on old.text.buffer mid.text.buffer new.text.buffer waited faulted first.calls second.calls;
   bytes = λ told. second.bytes (tells_still old.text.buffer.raw mid.text.buffer.raw first.calls.keeps.raw ∙ told) ∙ first.bytes told;
   place = second.place ∙ first.place;
   settings = second.settings ∙ first.settings;
   owes = passes_then old.text.buffer.raw mid.text.buffer.raw new.text.buffer.raw (all_owed (over_of old)) (all_owed (over_of mid)) (all_owed (over_of new)) first.calls.keeps.raw first.owes second.owes;
+  lays = lays_on (over_of old) (over_of mid) (over_of new) [] was is (ap (λ (place : TextPlace). place.at) first.place) first.calls.keeps.raw first.owes first.bytes first.lays second.lays;
   stays = open_then old.text.buffer mid.text.buffer new.text.buffer first.stays second.stays;
 }
 
@@ -446,14 +463,14 @@ went_on : (old new : WrittenView) → old.pending ≢ [] → place_now new ≡ p
 went_on old new some place none = omega (arith, own_from_is old, ap (λ (own : TextPlace). own.at) place, ap (λ (own : TextPlace). own.at) (behind_so (place_of old.text) old.pending), ap length none, some_long old.pending some)
 
 -- what was passed on of a text whose buffer took what it owed, or that owed nothing and has nothing to flush
-pub passed_behind : (old mid new : WrittenView) (count : ℕ) (flushes ends : Bool) (result : Result (Unit {0}) IoFault) → HandsOn old false false mid → PassOutcome mid count flushes result new → (old.text.settings.line_buffering ≡ true → ends ≡ true → flushes ≡ true) → (flushes ≡ true → old.pending ≢ []) → HandOutcome old count ends result new
-passed_behind old mid new count flushes ends (Ok done) hands outcome so some = (hands_on old mid new false false hands outcome.0, outcome.1, outcome.2, λ lines is. outcome.3 (so lines is))
-passed_behind old mid new count flushes ends (Err (fault.WouldBlock taken)) hands outcome so some = (hands_on old mid new true false hands outcome.0, outcome.1, outcome.2, outcome.3)
-passed_behind old mid new count flushes ends (Err fault.RawFault) hands outcome so some = (hands_on old mid new false true hands outcome.0, outcome.1)
-passed_behind old mid new count flushes ends (Err fault.NoMemory) hands outcome so some =
-    let on = hands_on old mid new false false hands outcome.0 in
+pub passed_behind : (old mid new : WrittenView) (count : ℕ) (flushes ends : Bool) (result : Result (Unit {0}) IoFault) → IsJoined (over_of old) → IsJoined (over_of mid) → HandsOn old false false mid → PassOutcome mid count flushes result new → (old.text.settings.line_buffering ≡ true → ends ≡ true → flushes ≡ true) → (flushes ≡ true → old.pending ≢ []) → HandOutcome old count ends result new
+passed_behind old mid new count flushes ends (Ok done) was is hands outcome so some = (hands_on old mid new false false was is hands outcome.0, outcome.1, outcome.2, λ lines line. outcome.3 (so lines line))
+passed_behind old mid new count flushes ends (Err (fault.WouldBlock taken)) was is hands outcome so some = (hands_on old mid new true false was is hands outcome.0, outcome.1, outcome.2, outcome.3)
+passed_behind old mid new count flushes ends (Err fault.RawFault) was is hands outcome so some = (hands_on old mid new false true was is hands outcome.0, outcome.1)
+passed_behind old mid new count flushes ends (Err fault.NoMemory) was is hands outcome so some =
+    let on = hands_on old mid new false false was is hands outcome.0 in
     inl (on, outcome.1, some outcome.2, inl (went_on old new (some outcome.2) on.place outcome.3))
-passed_behind old mid new count flushes ends (Err other) hands outcome so some = absurd outcome
+passed_behind old mid new count flushes ends (Err other) was is hands outcome so some = absurd outcome
 
 -- what is owed couldn't be handed on, and the text isn't as it was
 pub handed_not : (old new : WrittenView) (count : ℕ) (ends : Bool) (why : IoFault) → old.pending ≢ [] → SettleOutcome old (Err why) new → (why ≡ fault.NoMemory → new.life ≢ life.Live) → HandOutcome old count ends (Err (with_taken why count)) new
@@ -481,6 +498,7 @@ lets_go old mid new count room outcome lives is = subst (λ (view : WrittenView)
       settings = outcome.0.settings;
       flat = nothing.flat;
       owes = nothing.owes;
+      lays = outcome.0.lays;
       stays = outcome.0.stays;
     }
 

@@ -15,7 +15,7 @@ use Rattle.py_stream.specs.Kinds.{says_wait, says_fault}
 use Rattle.py_stream.specs.Buffer.{Buffer, WhereShown}
 use Rattle.py_held_text.specs.declared.wanted.Wanted.{Wanted}
 use Rattle.py_held_text.specs.declared.wanted.Wanted.TheVariants.{Characters, Line}
-use Rattle.py_read_text.specs.Owing.{IsJoined, WriteMovesBy, GaveOwn, Starves, KeepsOpen, Closes}
+use Rattle.py_read_text.specs.Owing.{IsJoined, WriteMovesBy, GaveOwn, Starves, KeepsOpen, Closes, given_by}
 use Rattle.py_read_text.proofs.Calling.{Passing, faulted_life, passes_accepted, fails_still, wait_step, fault_step, starve_step}
 use Rattle.py_read_text.proofs.Owing.{owes_none, has_own, owing_open}
 use Rattle.py_read_text.specs.Knowing.{place_of}
@@ -27,6 +27,7 @@ use Rattle.py_textio.specs.Written.{WrittenView, place_now, over_of, state_of, f
 use Rattle.py_textio.specs.Working.{Works}
 use Rattle.py_textio.proofs.Working.{answers_work}
 use Rattle.py_textio.proofs.Over.{reaches_place, handed_file}
+use Rattle.py_read_text.proofs.Fronts.{lays_given}
 
 pub not_rose : (before after : ℕ) → Rose before after → rose before after ≡ false → ⊥
 not_rose before after is still = grind arith
@@ -71,6 +72,7 @@ ends_work old call reply new short owes ends accepted hands there left current j
   written = subst (λ (own : TextPlace). WriteMoves old.text.settings call reply (place_now old) own) (sym hands.place) (ends.written old.text.settings (place_now old));
   joined = joined;
   owes = owes_none (over_of old) call (over_of new) (ends.moves (place_now old).at (place_now new).at) hands.owes;
+  lays = lays_given (over_of old) (given_by old.text.settings call) (over_of new) hands.lays;
   starves = starves;
   closes = ends.closes old.life old.text.buffer new.text.buffer hands.stays;
   stays = λ is. hands.stays;
@@ -236,7 +238,7 @@ passing_stops old new closes other owes sound outcome joined = absurd outcome
 pub close_fails : (old mid new : WrittenView) (why : IoFault) → Owes old → says_fault (Refused why) ≡ true → SettleOutcome old (Err why) mid → IsJoined (over_of mid) → new ≡ record mid { life = life.Closed } → Answers (state_of old false) Close (Refused fault.RawFault) (state_of new false)
 close_fails old mid new fault.RawFault owes fails outcome joined is =
     subst (λ (view : WrittenView). Answers (state_of old false) Close (Refused fault.RawFault) (state_of view false)) (sym is)
-    (passing_failed old (closed_of mid) true owes (record { calls = outcome.0.calls; bytes = outcome.0.bytes; place = outcome.0.place; settings = outcome.0.settings; owes = outcome.0.owes; stays = outcome.0.stays }) refl joined)
+    (passing_failed old (closed_of mid) true owes (record { calls = outcome.0.calls; bytes = outcome.0.bytes; place = outcome.0.place; settings = outcome.0.settings; owes = outcome.0.owes; lays = outcome.0.lays; stays = outcome.0.stays }) refl joined)
 close_fails old mid new why owes fails outcome joined is = absurd (cc)
 
 -- a close that had to wait, or ran out of memory, before its buffer was asked to close

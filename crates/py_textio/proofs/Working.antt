@@ -23,6 +23,7 @@ answers_work old call reply new short works = record {
   };
   joined = works.joined;
   owes = works.owes;
+  lays = works.lays;
   starves = works.starves;
   closes = works.closes;
   stays = works.stays;

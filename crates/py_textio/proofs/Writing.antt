@@ -1,5 +1,5 @@
 -- A text that is written: what each answer says of it.
-use Rattle.std.proofs.Common.{◌≡◌, ◌≢◌, ℕ, ◌+◌, ◌<◌, ◌≤◌, inl, inr, Bool, true, false, ◌&&◌, ◌||◌, IsTrue, List, [], ◌∷◌, ◌++◌, ◌-◌, length, take, Option, Some, None, Result, Ok, Err, is_none, refl, sym, ap, ◌∙◌, subst, arith, append_assoc}
+use Rattle.std.proofs.Common.{◌≡◌, ◌≢◌, ℕ, ◌+◌, ◌<◌, ◌≤◌, inl, inr, Bool, true, false, ◌&&◌, ◌||◌, IsTrue, List, [], ◌∷◌, ◌++◌, ◌-◌, length, take, Option, Some, None, Result, Ok, Err, is_none, refl, sym, ap, ◌∙◌, subst, arith, append_assoc, append-nil}
 use Rattle.std.proofs.lemmas.List.{take_all, length-append, take-append-le}
 use Rattle.std.proofs.lemmas.Bool.{lt-ltb}
 use Rattle.py_flat.specs.declared.fault.IoFault.{IoFault}
@@ -28,10 +28,10 @@ use Rattle.py_stream.specs.Kinds.{says_wait}
 use Rattle.py_stream.specs.Buffer.{Buffer, WhereShown, flat_of}
 use Rattle.py_read_text.specs.Knowing.{place_of}
 use Rattle.py_read_text.proofs.Placing.{not_far}
-use Rattle.py_read_text.specs.Owing.{all_owed, IsJoined, PassesOwed, OwesOn, own_from, HasOwn, GaveOwn, StopsOwing}
+use Rattle.py_read_text.specs.Owing.{all_owed, IsJoined, PassesOwed, OwesOn, own_from, HasOwn, GaveOwn, StopsOwing, all_from, LaysFront, LaysOwed}
 use Rattle.py_read_text.proofs.Owing.{passes_then, passes_behind, owes_none, open_then, owing_open}
 use Rattle.py_read_text.specs.Answers.{further, IsPassedOn, KeepsFew, has_line_end, Answers}
-use Rattle.py_textio.specs.Written.{WrittenView, behind_owed, place_now, over_of, state_of, file_now, HandsOn, TookText, GoesBack, BackOutcome, LetsGo, HandOutcome}
+use Rattle.py_textio.specs.Written.{WrittenView, behind_owed, place_now, over_of, state_of, file_now, HandsOnBut, HandsOn, TookText, GoesBack, BackOutcome, LetsGo, HandOutcome}
 use Rattle.py_textio.proofs.Ended.{ended-some}
 use Rattle.py_textio.proofs.Refusing.{refused}
 use Rattle.py_textio.proofs.Settling.{clean_place, own_from_is}
@@ -39,15 +39,17 @@ use Rattle.py_textio.proofs.Working.{answers_work}
 use Rattle.py_textio.proofs.Over.{calls_on, handed_file}
 use Rattle.py_read_text.proofs.Calling.{fails_still}
 use Rattle.py_textio.proofs.Stopping.{not_rose}
+use Rattle.py_read_text.proofs.Fronts.{lays_none, lays_given}
 
 -- what written is handed on
-pub took_then : (old mid new : WrittenView) (bytes : List ℕ) (waited faulted : Bool) → TookText old bytes false false mid → HandsOn mid waited faulted new → TookText old bytes waited faulted new
-took_then old mid new bytes waited faulted took hands = record {
+took_then : (old mid new : WrittenView) (bytes : List ℕ) (waited faulted : Bool) → TookText old bytes false false mid → LaysOwed (over_of old) (all_owed (over_of old) ++ bytes) (over_of new) → HandsOn mid waited faulted new → TookText old bytes waited faulted new
+took_then old mid new bytes waited faulted took lays hands = record {
   calls = calls_on old.text.buffer mid.text.buffer new.text.buffer waited faulted took.calls hands.calls;
   bytes = λ told. hands.bytes (tells_still old.text.buffer.raw mid.text.buffer.raw took.calls.keeps.raw ∙ told) ∙ took.bytes told;
   place = hands.place ∙ took.place;
   settings = hands.settings ∙ took.settings;
   owes = passes_then old.text.buffer.raw mid.text.buffer.raw new.text.buffer.raw (all_owed (over_of old) ++ bytes) (all_owed (over_of mid)) (all_owed (over_of new)) took.calls.keeps.raw took.owes hands.owes;
+  lays = lays;
   stays = open_then old.text.buffer mid.text.buffer new.text.buffer took.stays hands.stays;
 }
 
@@ -56,7 +58,7 @@ owes_took : (old new : WrittenView) (text : List ℕ) (waited faulted : Bool) �
 owes_took old new text waited faulted took = record { taken = written_bytes old.text.settings text; whole = inr refl; place = ap (λ (place : TextPlace). place.at) took.place; passes = took.owes }
 
 -- what is owed after a text wasn't
-owes_not : (old new : WrittenView) (text : List ℕ) (waited faulted : Bool) → HandsOn old waited faulted new → OwesOn (over_of old) (WriteText text) (over_of new)
+owes_not : {given : List ℕ} → (old new : WrittenView) (text : List ℕ) (waited faulted : Bool) → HandsOnBut given old waited faulted new → OwesOn (over_of old) (WriteText text) (over_of new)
 owes_not old new text waited faulted hands = owes_none (over_of old) (WriteText text) (over_of new) (omega (arith, ap (λ (place : TextPlace). place.at) hands.place)) hands.owes
 
 -- a live text that may be written, by these characters
@@ -118,6 +120,7 @@ wrote old new text count may took lives joined counts few passed =
       written = took.place;
       joined = joined;
       owes = owes_took old new text false false took;
+      lays = took.lays;
       starves = tt;
       closes = tt;
       stays = λ is. took.stays;
@@ -151,6 +154,7 @@ wrote_blocked old new text taken may took lives joined counts stops =
       written = (counts, took.place ∙ ap (further (place_now old)) (sym counts));
       joined = joined;
       owes = owes_took old new text true false took;
+      lays = took.lays;
       starves = tt;
       closes = tt;
       stays = λ is. took.stays;
@@ -184,6 +188,7 @@ wrote_failed old new text may took failed joined =
       written = inr took.place;
       joined = joined;
       owes = owes_took old new text false true took;
+      lays = took.lays;
       starves = tt;
       closes = tt;
       stays = λ is. took.stays;
@@ -220,6 +225,7 @@ wrote_starved old new text may took failed has gave joined =
       written = inr took.place;
       joined = joined;
       owes = owes_took old new text false false took;
+      lays = took.lays;
       starves = inr (failed, has, gave);
       closes = tt;
       stays = λ is. took.stays;
@@ -258,6 +264,7 @@ unwritten_failed old new text may hands failed joined =
       written = inl hands.place;
       joined = joined;
       owes = owes_not old new text false true hands;
+      lays = lays_given (over_of old) (own_bytes old text) (over_of new) hands.lays;
       starves = tt;
       closes = tt;
       stays = λ is. hands.stays;
@@ -274,7 +281,7 @@ unwritten_failed old new text may hands failed joined =
       kept = tt;
     })
 
-pub unwritten_starved : (old new : WrittenView) (text : List ℕ) → MayWrite old text → HandsOn old false false new → new.life ≡ life.Live → IsJoined (over_of new) → Answers (state_of old false) (WriteText text) (Refused fault.NoMemory) (state_of new false)
+pub unwritten_starved : (old new : WrittenView) (text : List ℕ) → MayWrite old text → HandsOnBut (own_bytes old text) old false false new → new.life ≡ life.Live → IsJoined (over_of new) → Answers (state_of old false) (WriteText text) (Refused fault.NoMemory) (state_of new false)
 unwritten_starved old new text may hands lives joined =
     let current : new.life ≡ old.life = lives ∙ sym may.live in
     answers_work old (WriteText text) (Refused fault.NoMemory) new false (record {
@@ -291,6 +298,7 @@ unwritten_starved old new text may hands lives joined =
       written = inl hands.place;
       joined = joined;
       owes = owes_not old new text false false hands;
+      lays = hands.lays;
       starves = inl (record { life_is = current; settings = hands.settings; place = hands.place });
       closes = tt;
       stays = λ is. hands.stays;
@@ -375,13 +383,36 @@ put_bytes old mid bytes room back = record {
       ∙ (ap (λ (place : TextPlace). further place (length bytes)) (sym (clean_place mid.text mid.pending back.stands)) ∙ ap (λ (place : TextPlace). further place (length bytes)) back.hands.place));
   settings = back.hands.settings;
   owes = subst (λ (all : List ℕ). PassesOwed old.text.buffer.raw (all_owed (over_of old) ++ bytes) mid.text.buffer.raw all) (append_assoc mid.text.buffer.owed.bytes mid.pending bytes) (passes_behind old.text.buffer.raw mid.text.buffer.raw (all_owed (over_of old)) (all_owed (over_of mid)) bytes back.hands.owes);
+  lays = λ told. lays_none old.text.buffer.raw.bytes (all_from (over_of old)) _ mid.text.buffer.raw.bytes (back.raw_bytes told);
   stays = back.hands.stays;
 }
+
+-- where what is owed begins, and what that is, once bytes were put behind it
+put_from : (old mid : WrittenView) (bytes : List ℕ) (room : ℕ) → GoesBack old mid → all_from (over_of (with_bytes mid bytes room)) ≡ all_from (over_of old)
+put_from old mid bytes room back = omega (arith, ap (λ (place : TextPlace). place.at) (clean_place mid.text mid.pending back.stands), ap (λ (place : TextPlace). place.at) (clean_place mid.text (mid.pending ++ bytes) back.stands), ap (λ (place : TextPlace). place.at) back.hands.place, ap length back.owed, ap length back.pending, length-append mid.text.buffer.owed.bytes (mid.pending ++ bytes), length-append mid.pending bytes, length-append old.text.buffer.owed.bytes old.pending)
+
+put_owed : (old mid : WrittenView) (bytes : List ℕ) (room : ℕ) → GoesBack old mid → all_owed (over_of (with_bytes mid bytes room)) ++ [] ≡ all_owed (over_of old) ++ bytes
+put_owed old mid bytes room back =
+    append-nil (mid.text.buffer.owed.bytes ++ (mid.pending ++ bytes))
+    ∙ (sym (append_assoc mid.text.buffer.owed.bytes mid.pending bytes)
+    ∙ (ap (λ (owed : List ℕ). (owed ++ mid.pending) ++ bytes) back.owed ∙ ap (λ (owed : List ℕ). (old.text.buffer.owed.bytes ++ owed) ++ bytes) back.pending))
+
+-- what is laid on of what was owed, and of bytes that were put behind it
+put_lays : (old mid : WrittenView) (bytes : List ℕ) (room : ℕ) (after : TextOver Buffer) → GoesBack old mid → LaysOwed (over_of (with_bytes mid bytes room)) (all_owed (over_of (with_bytes mid bytes room)) ++ []) after → LaysOwed (over_of old) (all_owed (over_of old) ++ bytes) after
+put_lays old mid bytes room after back lays = λ told.
+    subst (λ (own : List ℕ). LaysFront own (all_from (over_of old)) (all_owed (over_of old) ++ bytes) after.buffer.raw.bytes) (back.raw_bytes told)
+    (subst (λ (owed : List ℕ). LaysFront mid.text.buffer.raw.bytes (all_from (over_of old)) owed after.buffer.raw.bytes) (put_owed old mid bytes room back)
+    (subst (λ (from : ℕ). LaysFront mid.text.buffer.raw.bytes from (all_owed (over_of (with_bytes mid bytes room)) ++ []) after.buffer.raw.bytes) (put_from old mid bytes room back)
+    (lays (tells_still old.text.buffer.raw mid.text.buffer.raw back.hands.calls.keeps.raw ∙ told))))
+
+-- what was put behind what is owed is handed on
+put_then : (old mid new : WrittenView) (bytes : List ℕ) (room : ℕ) (waited faulted : Bool) → GoesBack old mid → HandsOn (with_bytes mid bytes room) waited faulted new → TookText old bytes waited faulted new
+put_then old mid new bytes room waited faulted back hands = took_then old (with_bytes mid bytes room) new bytes waited faulted (put_bytes old mid bytes room back) (put_lays old mid bytes room (over_of new) back hands.lays) hands
 
 take_first : (first second : List ℕ) (count : ℕ) → count ≡ length second → take (length (first ++ second) - count) (first ++ second) ≡ first
 take_first first second count is = ap (λ (size : ℕ). take size (first ++ second)) (omega (arith, length-append first second, is)) ∙ (take-append-le (length first) first second (omega arith) ∙ take_all (length first) first (omega arith))
 
-let_go_so : (old mid new : WrittenView) (bytes : List ℕ) (room count : ℕ) → GoesBack old mid → count ≡ length bytes → LetsGo (with_bytes mid bytes room) count new → HandsOn old false false new
+let_go_so : (old mid new : WrittenView) (bytes : List ℕ) (room count : ℕ) → GoesBack old mid → count ≡ length bytes → LetsGo (with_bytes mid bytes room) count new → HandsOnBut bytes old false false new
 let_go_so old mid new bytes room count back counts lets =
     let pending : new.pending ≡ mid.pending = lets.pending ∙ take_first mid.pending bytes count counts in
     record {
@@ -397,6 +428,7 @@ let_go_so old mid new bytes room count back counts lets =
       settings = lets.settings ∙ back.hands.settings;
       owes = passes_then old.text.buffer.raw mid.text.buffer.raw new.text.buffer.raw (all_owed (over_of old)) (all_owed (over_of mid)) (all_owed (over_of new)) back.hands.calls.keeps.raw back.hands.owes
           (subst (λ (owed : List ℕ). PassesOwed mid.text.buffer.raw (all_owed (over_of mid)) new.text.buffer.raw (new.text.buffer.owed.bytes ++ owed)) (sym pending) (passes_behind mid.text.buffer.raw new.text.buffer.raw mid.text.buffer.owed.bytes new.text.buffer.owed.bytes mid.pending lets.owes));
+      lays = put_lays old mid bytes room (over_of new) back lets.lays;
       stays = open_then old.text.buffer mid.text.buffer new.text.buffer back.hands.stays lets.stays;
     }
 
@@ -420,22 +452,26 @@ gave_put old mid bytes room new back gave = by_gave gave
 
 pub written_on : (old mid new : WrittenView) (text : List ℕ) (room count : ℕ) (why : IoFault) → MayWrite old text → GoesBack old mid → count ≡ length (own_bytes old text) → HandOutcome (with_bytes mid (own_bytes old text) room) count (has_line_end text) (Err why) new → IsJoined (over_of new) → Answers (state_of old false) (WriteText text) (Refused why) (state_of new (says_wait (Refused why)))
 written_on old mid new text room count (fault.WouldBlock taken) may back counts outcome joined =
-    wrote_blocked old new text taken may (took_then old (with_bytes mid (own_bytes old text) room) new (own_bytes old text) true false (put_bytes old mid (own_bytes old text) room back) outcome.0) outcome.1 joined (outcome.2 ∙ counts) outcome.3
+    wrote_blocked old new text taken may (put_then old mid new (own_bytes old text) room true false back outcome.0) outcome.1 joined (outcome.2 ∙ counts) outcome.3
 written_on old mid new text room count fault.RawFault may back counts outcome joined =
-    wrote_failed old new text may (took_then old (with_bytes mid (own_bytes old text) room) new (own_bytes old text) false true (put_bytes old mid (own_bytes old text) room back) outcome.0) outcome.1 joined
+    wrote_failed old new text may (put_then old mid new (own_bytes old text) room false true back outcome.0) outcome.1 joined
 written_on old mid new text room count fault.NoMemory may back counts (inl outcome) joined =
-    wrote_starved old new text may (took_then old (with_bytes mid (own_bytes old text) room) new (own_bytes old text) false false (put_bytes old mid (own_bytes old text) room back) outcome.0) outcome.1 (λ none. outcome.2 (ap (λ (owed : List ℕ). owed ++ own_bytes old text) back.pending ∙ none)) (gave_put old mid (own_bytes old text) room (over_of new) back outcome.3) joined
+    wrote_starved old new text may (put_then old mid new (own_bytes old text) room false false back outcome.0) outcome.1 (λ none. outcome.2 (ap (λ (owed : List ℕ). owed ++ own_bytes old text) back.pending ∙ none)) (gave_put old mid (own_bytes old text) room (over_of new) back outcome.3) joined
 written_on old mid new text room count fault.NoMemory may back counts (inr lets) joined =
     unwritten_starved old new text may (let_go_so old mid new (own_bytes old text) room count back counts lets) lets.lives joined
 written_on old mid new text room count other may back counts outcome joined = absurd outcome
 
 pub written_all : (old mid new : WrittenView) (text : List ℕ) (room count chars : ℕ) → MayWrite old text → GoesBack old mid → chars ≡ length text → HandOutcome (with_bytes mid (own_bytes old text) room) count (has_line_end text) (Ok tt) new → IsJoined (over_of new) → Answers (state_of old false) (WriteText text) (Count chars) (state_of new false)
 written_all old mid new text room count chars may back counts outcome joined =
-    wrote old new text chars may (took_then old (with_bytes mid (own_bytes old text) room) new (own_bytes old text) false false (put_bytes old mid (own_bytes old text) room back) outcome.0) outcome.1 joined counts outcome.2 (λ lines ends. outcome.3 (ap (λ (settings : TextSettings). settings.line_buffering) back.hands.settings ∙ lines) ends)
+    wrote old new text chars may (put_then old mid new (own_bytes old text) room false false back outcome.0) outcome.1 joined counts outcome.2 (λ lines ends. outcome.3 (ap (λ (settings : TextSettings). settings.line_buffering) back.hands.settings ∙ lines) ends)
+
+-- nothing of the bytes that are given was handed on
+hands_given : (old new : WrittenView) (given : List ℕ) (waited faulted : Bool) → HandsOn old waited faulted new → HandsOnBut given old waited faulted new
+hands_given old new given waited faulted hands = record { calls = hands.calls; bytes = hands.bytes; place = hands.place; settings = hands.settings; owes = hands.owes; lays = lays_given (over_of old) given (over_of new) hands.lays; stays = hands.stays }
 
 pub written_not : (old new : WrittenView) (text : List ℕ) (why : IoFault) → MayWrite old text → BackOutcome old (Err why) new → IsJoined (over_of new) → Answers (state_of old false) (WriteText text) (Refused why) (state_of new (says_wait (Refused why)))
 written_not old new text fault.RawFault may outcome joined = unwritten_failed old new text may outcome.0 outcome.1 joined
-written_not old new text fault.NoMemory may outcome joined = unwritten_starved old new text may outcome.0 outcome.1 joined
+written_not old new text fault.NoMemory may outcome joined = unwritten_starved old new text may (hands_given old new (own_bytes old text) false false outcome.0) outcome.1 joined
 written_not old new text other may outcome joined = absurd outcome
 
 pub put_is : (old mid put : WrittenView) (text : List ℕ) → GoesBack old mid → put ≡ record mid { pending = mid.pending ++ written_bytes mid.text.settings text; room = put.room } → put ≡ with_bytes mid (own_bytes old text) put.room
@@ -459,4 +495,4 @@ unput old mid new text why may back memory same joined =
     let lacks : WrittenView = record mid { room = new.room } in
     subst (λ (own : IoFault). Answers (state_of old false) (WriteText text) (Refused own) (state_of new (says_wait (Refused own)))) (sym memory)
     (subst (λ (view : WrittenView). Answers (state_of old false) (WriteText text) (Refused fault.NoMemory) (state_of view false)) (sym same)
-    (unwritten_starved old lacks text may (record { calls = back.hands.calls; bytes = back.hands.bytes; place = back.hands.place; settings = back.hands.settings; owes = back.hands.owes; stays = back.hands.stays }) back.lives joined))
+    (unwritten_starved old lacks text may (record { calls = back.hands.calls; bytes = back.hands.bytes; place = back.hands.place; settings = back.hands.settings; owes = back.hands.owes; lays = λ told. lays_none old.text.buffer.raw.bytes (all_from (over_of old)) _ mid.text.buffer.raw.bytes (back.raw_bytes told); stays = back.hands.stays }) back.lives joined))

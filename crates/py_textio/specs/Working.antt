@@ -1,5 +1,5 @@
 -- A call for which the buffer was called, of a text that is written: the parts of its clause.
-use Rattle.std.specs.Prelude.{◌≡◌, Bool, true, false, IsTrue, [], None}
+use Rattle.std.specs.Prelude.{◌≡◌, Bool, true, false, IsTrue, [], ◌++◌, None}
 use Rattle.py_flat.specs.Calls.{FileReply}
 use Rattle.py_flat.specs.Causes.{rose}
 use Rattle.py_plain_text.specs.TextCalls.{TextFileCall}
@@ -9,7 +9,7 @@ use Rattle.py_stream.specs.Kinds.{says_fault}
 use Rattle.py_stream.specs.Buffer.{WhereShown}
 use Rattle.py_read_text.specs.Ahead.{ReadsNoFurther}
 use Rattle.py_read_text.specs.Answers.{calls_nothing, passes_on, gives_text, IsReplyTo, IsComplete, IsShort, PlaceMoves, WriteMoves, LifeMoves, settings_after, closes_again, WantsMemory, ClosesWithRaw, HidesNothing, TextPasses, TextKeeps}
-use Rattle.py_read_text.specs.Owing.{IsJoined, OwesOn, Starves, StopsOwing, KeepsOpen, StaysWhileOwing, may_close, Closes}
+use Rattle.py_read_text.specs.Owing.{all_owed, IsJoined, given_by, OwesOn, LaysOwed, Starves, StopsOwing, KeepsOpen, StaysWhileOwing, may_close, Closes}
 use Rattle.py_textio.specs.Written.{WrittenView, place_now, over_of, state_of, file_now, CallsBuffer}
 
 pub record Works (old : WrittenView) (call : TextFileCall) (reply : FileReply) (new : WrittenView) (short : Bool) : Type 0 where
@@ -30,6 +30,7 @@ pub record Works (old : WrittenView) (call : TextFileCall) (reply : FileReply) (
   pub joined : IsJoined (over_of new)
   -- what became of the bytes that were owed, and of the raw
   pub owes : OwesOn (over_of old) call (over_of new)
+  pub lays : LaysOwed (over_of old) (all_owed (over_of old) ++ given_by old.text.settings call) (over_of new)
   pub starves : Starves (over_of old) call reply (over_of new)
   pub closes : Closes old.life call old.text.buffer reply new.text.buffer
   pub stays : may_close call reply ≡ false → KeepsOpen old.text.buffer new.text.buffer

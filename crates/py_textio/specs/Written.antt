@@ -17,7 +17,7 @@ use Rattle.py_stream.specs.Writing.{IsFull}
 use Rattle.py_stream.specs.Buffer.{Buffer, WhereShown, flat_of, size_shown, stream_shown, KeepsBuffer}
 use Rattle.py_read_text.specs.TextState.{TextState, file_of}
 use Rattle.py_read_text.specs.Knowing.{TextView, place_of, over_of as read_of, IsClean}
-use Rattle.py_read_text.specs.Owing.{all_owed, IsJoined, PassesOwed, GaveOwn, StopsOwing, KeepsOpen}
+use Rattle.py_read_text.specs.Owing.{all_owed, IsJoined, PassesOwed, LaysOwed, GaveOwn, StopsOwing, KeepsOpen}
 use Rattle.py_read_text.specs.Answers.{further, StandsWhileLive, IsPassedOn, KeepsFew}
 
 -- the text that reads; the bytes that were written and that its buffer hasn't, with room for more; and its life
@@ -79,14 +79,20 @@ pub record CallsBuffer (before : Buffer) (waited faulted : Bool) (after : Buffer
   pub faults : IsTrue before.raw.counts_exactly → faulted ≡ false → after.raw.faults ≡ before.raw.faults
   pub stands : StandsWhileLive before → StandsWhileLive after
 
--- the buffer was called, and the text stays as it is: no byte is lost or doubled, and the raw isn't closed
-pub record HandsOn (old : WrittenView) (waited faulted : Bool) (new : WrittenView) : Type 0 where
+-- the buffer was called, and the text stays as it is: no byte is lost or doubled, and the raw isn't closed. Told, the raw has a front laid on
+-- of what was owed, and of bytes that the buffer was given behind it and didn't take
+pub record HandsOnBut (given : List ℕ) (old : WrittenView) (waited faulted : Bool) (new : WrittenView) : Type 0 where
   pub calls : CallsBuffer old.text.buffer waited faulted new.text.buffer
   pub bytes : WhereShown old.text.buffer ((file_now new).bytes ≡ (file_now old).bytes)
   pub place : place_now new ≡ place_now old
   pub settings : new.text.settings ≡ old.text.settings
   pub owes : PassesOwed old.text.buffer.raw (all_owed (over_of old)) new.text.buffer.raw (all_owed (over_of new))
+  pub lays : LaysOwed (over_of old) (all_owed (over_of old) ++ given) (over_of new)
   pub stays : KeepsOpen old.text.buffer new.text.buffer
+
+-- so, where no bytes were given
+abbrev pub HandsOn : WrittenView → (waited faulted : Bool) → WrittenView → Type 0
+HandsOn old waited faulted new = HandsOnBut [] old waited faulted new
 
 -- the buffer took nothing: its flat bytes and its place stay, and so does what the text owes; what it owes itself it may have passed on
 pub record TakesNothing (old new : WrittenView) : Type 0 where
@@ -129,6 +135,7 @@ pub record TookText (old : WrittenView) (written : List ℕ) (waited faulted : B
   pub place : place_now new ≡ further (place_now old) (length written)
   pub settings : new.text.settings ≡ old.text.settings
   pub owes : PassesOwed old.text.buffer.raw (all_owed (over_of old) ++ written) new.text.buffer.raw (all_owed (over_of new))
+  pub lays : LaysOwed (over_of old) (all_owed (over_of old) ++ written) (over_of new)
   pub stays : KeepsOpen old.text.buffer new.text.buffer
 
 -- how many bytes there are, where they end no further than a stream can
@@ -141,6 +148,7 @@ pub record GoesBack (old new : WrittenView) : Type 0 where
   pub hands : HandsOn old false false new
   pub owed : new.text.buffer.owed.bytes ≡ old.text.buffer.owed.bytes
   pub answered : AnswersFor 0 old.text.buffer.raw new.text.buffer.raw
+  pub raw_bytes : WhereShown old.text.buffer (new.text.buffer.raw.bytes ≡ old.text.buffer.raw.bytes)
   pub lives : new.life ≡ life.Live
   pub pending : new.pending ≡ old.pending
   pub stands : StandsToWrite new.text
@@ -162,6 +170,7 @@ pub record LetsGo (old : WrittenView) (count : ℕ) (new : WrittenView) : Type 0
   pub settings : new.text.settings ≡ old.text.settings
   pub flat : WhereShown old.text.buffer ((flat_of new.text.buffer).bytes ≡ (flat_of old.text.buffer).bytes)
   pub owes : PassesOwed old.text.buffer.raw old.text.buffer.owed.bytes new.text.buffer.raw new.text.buffer.owed.bytes
+  pub lays : LaysOwed (over_of old) (all_owed (over_of old) ++ []) (over_of new)
   pub stays : KeepsOpen old.text.buffer new.text.buffer
 
 -- the buffer passed on all, where it was to; or the raw would have blocked, which counts all n bytes as taken; or it failed, or memory ran

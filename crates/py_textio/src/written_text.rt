@@ -232,6 +232,8 @@ impl<B: BufferedStream> WrittenText<B> {
         requires some { asks_none wanted ≡ false }
         ensures { Answers (state_of self.old false) (call_of wanted) (reply_of result) (state_of self.new (waited_in result)) }
     {
+        // What holds of every text is known from here on.
+        let _ = self.life();
         match self.settle() {
             Ok(()) => self.read_on(alloc, wanted),
             Err(fault) => unready(fault),
@@ -269,6 +271,8 @@ impl<B: BufferedStream> WrittenText<B> {
         requires owes { self.old.pending ≢ [] }
         ensures { Answers (state_of self.old false) Flush (done_reply result) (state_of self.new (says_wait (done_reply result))) }
     {
+        // What holds of every text is known from here on.
+        let _ = self.life();
         match self.settle() {
             Ok(()) => self.flush_on(),
             Err(fault) => Err(with_taken(fault, 0)),
@@ -305,6 +309,8 @@ impl<B: BufferedStream> WrittenText<B> {
         requires owes { self.old.pending ≢ [] }
         ensures { Answers (state_of self.old false) Close (done_reply result) (state_of self.new (says_wait (done_reply result))) }
     {
+        // What holds of every text is known from here on.
+        let _ = self.life();
         match self.settle() {
             Ok(()) => self.close_on(),
             Err(fault) => {

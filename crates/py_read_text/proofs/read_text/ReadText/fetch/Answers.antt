@@ -1,6 +1,6 @@
 use Rattle.std.proofs.Common.{◌≡◌, [], ap, ◌∙◌, arith}
 use Rattle.py_read_text.specs.Knowing.{TextView}
-use Rattle.py_read_text.proofs.Chunks.{gave_of, waited_of, failed_of, kept_so, gave_none, brought_so, failed_so, fails_so, waited_so, end_so, empty_part}
+use Rattle.py_read_text.proofs.Chunks.{gave_of, waited_of, failed_of, kept_so, gave_none, brought_so, failed_so, fails_so, waited_so, end_so, empty_part, some_part, more_so}
 use Rattle.py_read_text.proofs.read_text.ReadText.fetch.Goals as goal
 
 pub invariant_of-self-then-is_empty : goal.invariant_of-self-then-is_empty
@@ -51,3 +51,10 @@ returns-in-Ok-None-clause-outcome g c =
     let can = ap (λ (view : TextView). view.buffer.can.readable) c.self.view_is ∙ c.requires.reads in
     let waited = waited_of _ _ _ _ _ _ live can c.self.invariant (rw c.in-Ok-None.field-0-is at c.in-Ok-None.ensures) in
     waited_so _ _ _ c.self.view_is c.reserve.ensures.rest waited
+
+pub returns-else-is_empty-clause-outcome : goal.returns-else-is_empty-clause-outcome
+returns-else-is_empty-clause-outcome g c =
+    let live = ap (λ (view : TextView). view.buffer.life) c.self.view_is ∙ c.requires.live in
+    let can = ap (λ (view : TextView). view.buffer.can.readable) c.self.view_is ∙ c.requires.reads in
+    let gave = gave_of _ _ _ _ _ _ c.in-Ok-Some.part live can c.self.invariant (rw c.in-Ok-Some.field-0-is at c.in-Ok-Some.ensures) in
+    more_so _ _ _ _ c.in-Ok-Some.part.items _ _ c.self.view_is gave (some_part _ c.in-Ok-Some.part.items (omega arith) c.if-is_empty.ensures) c.reserve.ensures.rest c.deref.ensures.value c.push.ensures.pushed

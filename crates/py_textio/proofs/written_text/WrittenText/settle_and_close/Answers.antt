@@ -4,7 +4,7 @@ use Rattle.py_textio.proofs.Stopping.{close_fails, close_stops}
 use Rattle.py_textio.proofs.written_text.WrittenText.settle_and_close.Goals as goal
 
 pub returns-in-Ok : goal.returns-in-Ok
-returns-in-Ok g c = close_over c.args.self.now c.settle.new.self c.close_on.new.self _ _ c.in-Ok.ensures.writes c.requires.live c.requires.owes c.in-Ok.ensures.outcome c.close_on.ensures
+returns-in-Ok g c = close_over c.args.self.now c.settle.new.self c.close_on.new.self _ _ c.life.ensures.joined c.in-Ok.ensures.joined c.in-Ok.ensures.writes c.requires.live c.requires.owes c.in-Ok.ensures.outcome c.close_on.ensures
 
 pub returns-then-is_raw_fault : goal.returns-then-is_raw_fault
 returns-then-is_raw_fault g c =

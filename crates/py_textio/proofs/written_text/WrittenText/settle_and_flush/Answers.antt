@@ -4,7 +4,7 @@ use Rattle.py_textio.proofs.Stopping.{passing_stops}
 use Rattle.py_textio.proofs.written_text.WrittenText.settle_and_flush.Goals as goal
 
 pub returns-in-Ok : goal.returns-in-Ok
-returns-in-Ok g c = flush_over c.args.self.now c.settle.new.self c.flush_on.new.self _ _ c.in-Ok.ensures.writes c.requires.live c.requires.owes c.in-Ok.ensures.outcome c.flush_on.ensures
+returns-in-Ok g c = flush_over c.args.self.now c.settle.new.self c.flush_on.new.self _ _ c.life.ensures.joined c.in-Ok.ensures.joined c.in-Ok.ensures.writes c.requires.live c.requires.owes c.in-Ok.ensures.outcome c.flush_on.ensures
 
 pub returns-in-Err : goal.returns-in-Err
 returns-in-Err g c =

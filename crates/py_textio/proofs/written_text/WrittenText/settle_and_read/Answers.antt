@@ -3,7 +3,7 @@ use Rattle.py_textio.proofs.Stopping.{read_stops}
 use Rattle.py_textio.proofs.written_text.WrittenText.settle_and_read.Goals as goal
 
 pub returns-in-Ok : goal.returns-in-Ok
-returns-in-Ok g c = read_over c.args.self.now c.settle.new.self c.read_on.new.self c.args.wanted _ _ c.in-Ok.ensures.writes c.requires.live c.in-Ok.ensures.stood c.in-Ok.ensures.there c.requires.owes c.requires.reads c.requires.some c.in-Ok.ensures.outcome c.read_on.ensures
+returns-in-Ok g c = read_over c.args.self.now c.settle.new.self c.read_on.new.self c.args.wanted _ _ c.life.ensures.joined c.in-Ok.ensures.joined c.in-Ok.ensures.writes c.requires.live c.in-Ok.ensures.stood c.in-Ok.ensures.there c.requires.owes c.requires.reads c.requires.some c.in-Ok.ensures.outcome c.read_on.ensures
 
 pub returns-in-Err : goal.returns-in-Err
 returns-in-Err g c =
