@@ -12,6 +12,7 @@ mod finding;
 mod laws;
 mod newline_decoder;
 mod reading;
+mod reconfigure;
 mod text_settings;
 mod utf8_size;
 
@@ -27,5 +28,6 @@ pub use py_codec::IoFault;
 pub use py_plain::{Encoding, Handler, Newlines};
 pub use py_registry::{CodecsRegistry, SearchFunction};
 pub use reading::read_so_far;
+pub use reconfigure::Reconfigure;
 pub use text_settings::TextSettings;
 pub use utf8_size::Utf8size;
