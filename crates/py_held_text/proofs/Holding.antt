@@ -1,6 +1,6 @@
 -- What a text has in hand after a decoding.
-use Rattle.std.proofs.Common.{◌≡◌, ℕ, zero, suc, ◌+◌, ◌≤◌, Bool, true, false, nat_eq, List, [], ◌∷◌, ◌++◌, length as len, drop, Option, Some, None, IfSome, refl, sym, ap, subst, ◌∙◌, arith, append_assoc, append-nil, true≢false}
-use Rattle.std.proofs.lemmas.List.{length-append}
+use Rattle.std.proofs.Common.{◌≡◌, ℕ, zero, suc, ◌+◌, ◌≤◌, Bool, true, false, nat_eq, List, [], ◌∷◌, ◌++◌, length as len, take, drop, Option, Some, None, option_map, IfSome, refl, sym, ap, subst, ◌∙◌, arith, append_assoc, append-nil, true≢false}
+use Rattle.std.proofs.lemmas.List.{length-append, take-append-drop}
 use Rattle.py_plain.specs.declared.encoding.Encoding.{Encoding}
 use Rattle.py_plain.specs.declared.newlines.Newlines.{Newlines}
 use Rattle.py_plain.specs.declared.unit.Unit.{Unit as Read}
@@ -24,7 +24,7 @@ use Rattle.py_incremental.proofs.Feeding.{ignores}
 use Rattle.py_incremental.proofs.Moving.{IgnoresPlace, moved}
 use Rattle.py_text.specs.declared.coder.Coder.{Coder}
 use Rattle.py_text.proofs.Joining.{read-both}
-use Rattle.py_held_text.specs.Held.{HeldView}
+use Rattle.py_held_text.specs.Held.{HeldView, kept_of}
 use Rattle.py_held_text.specs.Decodes.{Decodes, IsDrained, RefusesNext}
 use Rattle.py_held_text.specs.Known.{KnownView, reading, IsWhole}
 use Rattle.py_held_text.proofs.Reading.{all-both, read-few}
@@ -111,8 +111,18 @@ moved-so-far newline cr known cs whole behind is =
     ∙ ap (λ (t : List ℕ). known ++ t) (sym (read-both newline cr cs behind) ∙ ap (read_so_far newline cr) (sym is))
 
 -- what a text has in hand, by its parts
-abbrev pub held-by : Coder → KnownView → List ℕ → (place room : ℕ) → HeldView
-held-by coder known bytes place room = record { encoding = coder.encoding; handler = coder.errors; newline = known.newline; known = known.characters; cr = known.cr; bytes = bytes; place = place; order = Unknown; room = room }
+abbrev pub held-by : Coder → KnownView → Option (List ℕ) → List ℕ → (place room : ℕ) → HeldView
+held-by coder known kept bytes place room = record { encoding = coder.encoding; handler = coder.errors; newline = known.newline; known = known.characters; cr = known.cr; kept = kept; bytes = bytes; place = place; order = Unknown; room = room }
+
+-- all bytes that were put in, by what is kept of them and what isn't decoded
+abbrev pub whole-by : Option (List ℕ) → List ℕ → Option (List ℕ)
+whole-by kept bytes = option_map (λ front. front ++ bytes) kept
+
+-- where decoded bytes are kept, all are what they were
+pub kept-whole : (keeps : Bool) (from end count : ℕ) (items new bytes : List ℕ) → (keeps ≡ true → (count ≡ end) × (new ≡ items)) → bytes ≡ drop from items → whole-by (kept_of keeps count new) (drop count new) ≡ whole-by (kept_of keeps from items) bytes
+kept-whole true from end count items new bytes same is =
+    ap Some (take-append-drop count new ∙ ((same refl).1 ∙ (sym (take-append-drop from items) ∙ ap (λ (behind : List ℕ). take from items ++ behind) (sym is))))
+kept-whole false from end count items new bytes same is = refl
 
 -- the decoding of some bytes alone
 abbrev pub whole-walk : Coder → Bool → List ℕ → Walk
@@ -125,8 +135,8 @@ AllDecoded coder last bytes decoded = IsWhole (whole-walk coder last bytes) (wal
 leaves-by : (coder : Coder) (last : Bool) (bytes : List ℕ) (decoded : FrontDecoded) → AllDecoded coder last bytes decoded → decoded.used ≤ len bytes → Leaves coder.encoding (treatment coder.errors coder.encoding) last bytes decoded.used
 leaves-by coder last bytes decoded whole within = record { within = within; goes_on = whole.goes_on }
 
-decodes-here : (coder : Coder) (known : KnownView) (bytes : List ℕ) (place room more_room : ℕ) (last : Bool) (decoded : FrontDecoded) → reads_texts coder.errors ≡ true → AllDecoded coder last bytes decoded → decoded.used ≤ len bytes → room ≤ more_room → Decodes last (held-by coder known bytes place room) (held-by coder (reading known (characters_of (whole-walk coder last bytes).items)) (drop decoded.used bytes) (place + decoded.used) more_room)
-decodes-here coder known bytes place room more_room last decoded reads whole within more =
+decodes-here : (coder : Coder) (known : KnownView) (kept kept_now : Option (List ℕ)) (bytes : List ℕ) (place room more_room : ℕ) (last : Bool) (decoded : FrontDecoded) → reads_texts coder.errors ≡ true → AllDecoded coder last bytes decoded → decoded.used ≤ len bytes → whole-by kept_now (drop decoded.used bytes) ≡ whole-by kept bytes → room ≤ more_room → Decodes last (held-by coder known kept bytes place room) (held-by coder (reading known (characters_of (whole-walk coder last bytes).items)) kept_now (drop decoded.used bytes) (place + decoded.used) more_room)
+decodes-here coder known kept kept_now bytes place room more_room last decoded reads whole within same more =
     let encoding : Encoding = coder.encoding in
     let treat : Treatment = treatment coder.errors encoding in
     let items : List Item = (whole-walk coder last bytes).items in
@@ -142,6 +152,7 @@ decodes-here coder known bytes place room more_room last decoded reads whole wit
       bytes = refl;
       place = refl;
       room = more;
+      whole = same;
       grows = (read_so_far known.newline known.cr cs, refl);
       few = omega (arith, read-few known.newline known.cr cs, length-append known.characters (read_so_far known.newline known.cr cs), whole.few, whole.chars);
       left = λ further none.
@@ -153,11 +164,11 @@ decodes-here coder known bytes place room more_room last decoded reads whole wit
     }
 
 -- a decoding is what a text in hand does
-pub decodes-by : (coder : Coder) (known after : KnownView) (bytes rest : List ℕ) (place room more_room : ℕ) (last : Bool) (decoded : FrontDecoded) → reads_texts coder.errors ≡ true → AllDecoded coder last bytes decoded → after ≡ reading known (characters_of (whole-walk coder last bytes).items) → decoded.used ≤ len bytes → rest ≡ drop decoded.used bytes → room ≤ more_room → Decodes last (held-by coder known bytes place room) (held-by coder after rest (place + decoded.used) more_room)
-decodes-by coder known after bytes rest place room more_room last decoded reads whole after_is within rest_is more =
-    subst (λ (k : KnownView). Decodes last (held-by coder known bytes place room) (held-by coder k rest (place + decoded.used) more_room)) (sym after_is)
-    (subst (λ (r : List ℕ). Decodes last (held-by coder known bytes place room) (held-by coder (reading known (characters_of (whole-walk coder last bytes).items)) r (place + decoded.used) more_room)) (sym rest_is)
-    (decodes-here coder known bytes place room more_room last decoded reads whole within more))
+pub decodes-by : (coder : Coder) (known after : KnownView) (kept kept_now : Option (List ℕ)) (bytes rest : List ℕ) (place room more_room : ℕ) (last : Bool) (decoded : FrontDecoded) → reads_texts coder.errors ≡ true → AllDecoded coder last bytes decoded → after ≡ reading known (characters_of (whole-walk coder last bytes).items) → decoded.used ≤ len bytes → rest ≡ drop decoded.used bytes → whole-by kept_now rest ≡ whole-by kept bytes → room ≤ more_room → Decodes last (held-by coder known kept bytes place room) (held-by coder after kept_now rest (place + decoded.used) more_room)
+decodes-by coder known after kept kept_now bytes rest place room more_room last decoded reads whole after_is within rest_is same more =
+    subst (λ (k : KnownView). Decodes last (held-by coder known kept bytes place room) (held-by coder k kept_now rest (place + decoded.used) more_room)) (sym after_is)
+    (subst (λ (r : List ℕ). Decodes last (held-by coder known kept bytes place room) (held-by coder (reading known (characters_of (whole-walk coder last bytes).items)) kept_now r (place + decoded.used) more_room)) (sym rest_is)
+    (decodes-here coder known kept kept_now bytes place room more_room last decoded reads whole within (ap (whole-by kept_now) (sym rest_is) ∙ same) more))
 
 -- Nothing is left that is an item.
 
@@ -179,8 +190,8 @@ empty-if : (encoding : Encoding) (treat : Treatment) (last : Bool) (place : ℕ)
 empty-if encoding treat true place bytes none ends is = last-empty encoding treat place bytes none ends
 empty-if encoding treat false place bytes none ends is = absurd (cc)
 
-pub drained-by : (coder : Coder) (after : KnownView) (bytes rest : List ℕ) (place room : ℕ) (last : Bool) (decoded : FrontDecoded) → AllDecoded coder last bytes decoded → decoded.used ≤ len bytes → rest ≡ drop decoded.used bytes → refusal_of (whole-walk coder last bytes).ending ≡ None → IsDrained last (held-by coder after rest (place + decoded.used) room)
-drained-by coder after bytes rest place room last decoded whole within rest_is ends_so =
+pub drained-by : (coder : Coder) (after : KnownView) (kept : Option (List ℕ)) (bytes rest : List ℕ) (place room : ℕ) (last : Bool) (decoded : FrontDecoded) → AllDecoded coder last bytes decoded → decoded.used ≤ len bytes → rest ≡ drop decoded.used bytes → refusal_of (whole-walk coder last bytes).ending ≡ None → IsDrained last (held-by coder after kept rest (place + decoded.used) room)
+drained-by coder after kept bytes rest place room last decoded whole within rest_is ends_so =
     let encoding : Encoding = coder.encoding in
     let treat : Treatment = treatment coder.errors encoding in
     let used : ℕ = decoded.used in
@@ -226,8 +237,8 @@ ends-there : (encoding : Encoding) (treat : Treatment) (final : Bool) (by place 
 ends-there encoding treat final by place bytes start end anywhere is =
     still encoding treat final by place bytes anywhere (ap (λ (w : Walk). w.items) is) ∙ ap (λ (w : Walk). ends Unknown (moved by w.ending)) is
 
-refuses-here : (coder : Coder) (after : KnownView) (bytes : List ℕ) (place room : ℕ) (last : Bool) (decoded : FrontDecoded) (start end : ℕ) → reads_texts coder.errors ≡ true → AllDecoded coder last bytes decoded → decoded.used ≤ len bytes → (whole-walk coder last bytes).ending ≡ AtRange start end → RefusesNext last (held-by coder after (drop decoded.used bytes) (place + decoded.used) room) (place + start) (place + end)
-refuses-here coder after bytes place room last decoded start end reads whole within is =
+refuses-here : (coder : Coder) (after : KnownView) (kept : Option (List ℕ)) (bytes : List ℕ) (place room : ℕ) (last : Bool) (decoded : FrontDecoded) (start end : ℕ) → reads_texts coder.errors ≡ true → AllDecoded coder last bytes decoded → decoded.used ≤ len bytes → (whole-walk coder last bytes).ending ≡ AtRange start end → RefusesNext last (held-by coder after kept (drop decoded.used bytes) (place + decoded.used) room) (place + start) (place + end)
+refuses-here coder after kept bytes place room last decoded start end reads whole within is =
     let encoding : Encoding = coder.encoding in
     let treat : Treatment = treatment coder.errors encoding in
     let used : ℕ = decoded.used in
@@ -241,6 +252,6 @@ refuses-here coder after bytes place room last decoded start end reads whole wit
       so_far = λ more_comes more. ends-there encoding treat false place used (left ++ more) start end (ignores coder.errors encoding) (refuses-so-far encoding treat looks last used left more start end none ending more_comes);
     }
 
-pub refuses-by : (coder : Coder) (after : KnownView) (bytes rest : List ℕ) (place room : ℕ) (last : Bool) (decoded : FrontDecoded) (start end : ℕ) → reads_texts coder.errors ≡ true → AllDecoded coder last bytes decoded → decoded.used ≤ len bytes → rest ≡ drop decoded.used bytes → (whole-walk coder last bytes).ending ≡ AtRange start end → RefusesNext last (held-by coder after rest (place + decoded.used) room) (place + start) (place + end)
-refuses-by coder after bytes rest place room last decoded start end reads whole within rest_is is =
-    subst (λ (r : List ℕ). RefusesNext last (held-by coder after r (place + decoded.used) room) (place + start) (place + end)) (sym rest_is) (refuses-here coder after bytes place room last decoded start end reads whole within is)
+pub refuses-by : (coder : Coder) (after : KnownView) (kept : Option (List ℕ)) (bytes rest : List ℕ) (place room : ℕ) (last : Bool) (decoded : FrontDecoded) (start end : ℕ) → reads_texts coder.errors ≡ true → AllDecoded coder last bytes decoded → decoded.used ≤ len bytes → rest ≡ drop decoded.used bytes → (whole-walk coder last bytes).ending ≡ AtRange start end → RefusesNext last (held-by coder after kept rest (place + decoded.used) room) (place + start) (place + end)
+refuses-by coder after kept bytes rest place room last decoded start end reads whole within rest_is is =
+    subst (λ (r : List ℕ). RefusesNext last (held-by coder after kept r (place + decoded.used) room) (place + start) (place + end)) (sym rest_is) (refuses-here coder after kept bytes place room last decoded start end reads whole within is)

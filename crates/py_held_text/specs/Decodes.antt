@@ -5,7 +5,7 @@ use Rattle.py_flat.specs.declared.fault.IoFault.TheVariants.{NoMemory}
 use Rattle.py_plain.specs.Items.{AtRange, ends, refusal_of}
 use Rattle.py_held_text.specs.declared.held_stop.HeldStop.{HeldStop}
 use Rattle.py_held_text.specs.declared.held_stop.HeldStop.TheVariants.{Drained, Refused}
-use Rattle.py_held_text.specs.Held.{HeldView, ahead, left_with, left_so_far}
+use Rattle.py_held_text.specs.Held.{HeldView, ahead, whole_of, left_with, left_so_far}
 
 -- how bytes are read stays
 pub record KeepsSettings (old new : HeldView) : Type 0 where
@@ -18,7 +18,7 @@ abbrev pub known_with_cr : HeldView → ℕ
 known_with_cr held = length held.known + (if held.cr then 1 else 0)
 
 -- Some bytes in hand were used, and what is known has grown by what they gave: at most six characters for each of them. What is left
--- stays, whatever bytes come behind those in hand, none where these are the last.
+-- stays, whatever bytes come behind those in hand, none where these are the last. Where bytes are kept so are those that were used
 pub record Decodes (last : Bool) (old new : HeldView) : Type 0 where
   pub settings : KeepsSettings old new
   pub used : ℕ
@@ -26,6 +26,7 @@ pub record Decodes (last : Bool) (old new : HeldView) : Type 0 where
   pub bytes : new.bytes ≡ drop used old.bytes
   pub place : new.place ≡ old.place + used
   pub room : old.room ≤ new.room
+  pub whole : whole_of new ≡ whole_of old
   pub grows : (more : List ℕ) × (new.known ≡ old.known ++ more)
   pub few : known_with_cr new ≤ known_with_cr old + 6 * used
   pub left : (more : List ℕ) → (last ≡ true → more ≡ []) → left_with new more ≡ left_with old more

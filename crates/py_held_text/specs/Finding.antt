@@ -12,7 +12,7 @@ use Rattle.py_held_text.specs.declared.wanted.Wanted.{Wanted}
 use Rattle.py_held_text.specs.declared.wanted.Wanted.TheVariants.{Characters, Line}
 use Rattle.py_blocks.specs.declared.fronts.TextFront.{TextFront}
 pub use Rattle.py_blocks.specs.Fronts.{IsFrontOf}
-use Rattle.py_held_text.specs.Held.{HeldView}
+use Rattle.py_held_text.specs.Held.{HeldView, kept_behind}
 
 -- the answer of a call where some characters are all that is left
 abbrev pub answer_of : Wanted → Newlines → List ℕ → List ℕ
@@ -41,7 +41,7 @@ abbrev pub enough_before : Wanted → Newlines → List ℕ → Option ℕ
 enough_before (Characters size) newline cs = size_in_hand size cs
 enough_before (Line limit) newline cs = if is_ended (line_end newline) limit cs then Some (length (first_line (line_end newline) limit cs)) else None
 
--- a front was given, and is known no more; running out of memory leaves all as it was
+-- a front was given, and is known no more; where it has a character the bytes that were kept aren't, nor is all their room; running out of memory leaves all as it was
 abbrev pub GiveOutcome : TextFront → HeldView → Result (String Global) IoFault → HeldView → Type 0
-GiveOutcome front old (Ok text) new = (text_of text ≡ take front.chars old.known) × (new ≡ record old { known = drop front.chars old.known })
+GiveOutcome front old (Ok text) new = (text_of text ≡ take front.chars old.known) × (new ≡ record old { known = drop front.chars old.known; kept = kept_behind front.chars old.kept; room = new.room })
 GiveOutcome front old (Err why) new = (why ≡ NoMemory) × (new ≡ old)

@@ -1,9 +1,9 @@
-ghost use Rattle.std.specs.Prelude.{◌≡◌, ◌++◌, ◌+◌, ◌-◌, ◌≤◌, true, false, [], length, take, drop, vec_len, vec_capacity, option_map, IfErr, IfSome, OnOk, OnErr};
+ghost use Rattle.std.specs.Prelude.{◌≡◌, ◌++◌, ◌+◌, ◌-◌, ◌≤◌, true, false, [], Some, None, length, take, drop, vec_len, vec_capacity, option_map, is_some, IfErr, IfSome, OnOk, OnErr};
 ghost use Rattle.py_flat.specs.Limits.{greatest_place};
 ghost use Rattle.py_plain.specs.Units.{Unknown};
 ghost use Rattle.py_plain.specs.Handlers.{reads_texts};
 ghost use Rattle.py_plain.specs.NewlineRule.{read_all};
-ghost use Rattle.py_held_text.specs.Held.{nothing_held};
+ghost use Rattle.py_held_text.specs.Held.{nothing_held, cleared, held_anew};
 ghost use Rattle.py_held_text.specs.Decodes.{DecodeOutcome};
 ghost use Rattle.py_held_text.specs.Finding.{IsFrontOf, answer_of, enough, enough_before, GiveOutcome};
 
@@ -18,26 +18,30 @@ use std::fmt;
 use std::marker::Model;
 
 /// What a text stream has in hand: characters that it knows and hasn't given, and the bytes that it took behind them and
-/// hasn't decoded.
+/// hasn't decoded. While no character was given since it was made or cleared, the bytes that were decoded are kept, so that
+/// they can be read anew by other settings.
 ///
 /// Contracts see the settings, the known characters, whether a CR is held behind them (under the universal rule, until
-/// the next character releases it), the bytes with their place in the stream and the order that they are read in, and
-/// the room for more. Whatever bytes come behind those in hand, the text that is left stays: decoding moves it from
-/// bytes to characters, and only `give` and `clear` take of it.
+/// the next character releases it), the bytes that are kept, those that aren't decoded with their place in the stream and
+/// the order that they are read in, and the room for more. Whatever bytes come behind those in hand, the text that is left
+/// stays: decoding moves it from bytes to characters, and only `give`, `clear` and `read_anew` change it.
 #[derive(Drop)]
 pub struct HeldText {
     coder: Coder,
     known: KnownText,
     bytes: Vec<u8>,
+    /// How many of the bytes are decoded.
+    decoded: usize,
+    /// Whether bytes are kept once they are decoded.
+    keeps: bool,
     place: u64,
 }
 
 impl Model for HeldText {
-    ghost use Rattle.std.specs.Prelude.{◌≡◌, ◌+◌, ◌-◌, ◌≤◌, true, length, vec_len, vec_capacity};
-    ghost use Rattle.py_flat.specs.Limits.{greatest_place};
+    ghost use Rattle.std.specs.Prelude.{◌≡◌, ◌-◌, true, length, drop, vec_len, vec_capacity};
     ghost use Rattle.py_plain.specs.Units.{Unknown};
     ghost use Rattle.py_plain.specs.Handlers.{reads_texts};
-    ghost use Rattle.py_held_text.specs.Held.{HeldView};
+    ghost use Rattle.py_held_text.specs.Held.{HeldView, kept_of, IsHeld};
 
     ghost Value = { HeldView };
 
@@ -47,13 +51,14 @@ impl Model for HeldText {
       newline = h.known.newline;
       known = h.known.characters;
       cr = h.known.cr;
-      bytes = h.bytes.items;
+      kept = kept_of h.keeps h.decoded h.bytes.items;
+      bytes = drop h.decoded h.bytes.items;
       place = h.place;
       order = Unknown;
       room = vec_capacity h.bytes - vec_len h.bytes;
     } };
 
-    ghost invariant = { λ h. (reads_texts h.coder.errors ≡ true) × (h.place + vec_len h.bytes ≤ greatest_place) };
+    ghost invariant = { λ h. (reads_texts h.coder.errors ≡ true) × IsHeld (vec_len h.bytes) h.decoded h.place };
 }
 
 // Only how much is in hand, and not what: thousands of characters would hide all else.
@@ -62,7 +67,7 @@ impl fmt::Debug for HeldText {
         f.debug_struct("HeldText")
             .field("coder", &self.coder)
             .field("known", &self.known.len())
-            .field("bytes", &self.bytes.len())
+            .field("bytes", &(self.bytes.len() - self.decoded))
             .field("place", &self.place)
             .finish_non_exhaustive()
     }
@@ -80,6 +85,44 @@ pub fn drop_front(bytes: &mut Vec<u8>, count: usize)
     bytes.truncate(rest);
 }
 
+/// What stands behind the first n of some bytes.
+fn behind(bytes: &[u8], count: usize) -> &[u8]
+    requires { count ≤ length bytes.now }
+    ensures { result.now ≡ drop count bytes.now }
+{
+    &bytes[count..]
+}
+
+/// Some bytes of which the first are decoded: those are kept, or removed. Says how many there are of them then.
+fn keep_front(bytes: &mut Vec<u8>, decoded: usize, keeps: bool) -> usize
+    requires { decoded ≤ vec_len bytes.old }
+    ensures rest { drop result bytes.new.items ≡ drop decoded bytes.old.items }
+    ensures kept { keeps ≡ true → (result ≡ decoded) × (bytes.new.items ≡ bytes.old.items) }
+    ensures fewer { result ≤ decoded }
+    ensures len { vec_len bytes.new + decoded ≡ vec_len bytes.old + result }
+    ensures capacity { vec_capacity bytes.new ≡ vec_capacity bytes.old }
+{
+    if keeps {
+        return decoded;
+    }
+    drop_front(bytes, decoded);
+    0
+}
+
+/// How many bytes of room may always be kept.
+const KEPT: usize = 65536;
+
+/// Lets go of the room of some bytes that have room for far more than there are.
+fn trim(bytes: &mut Vec<u8>)
+    ensures items { bytes.new.items ≡ bytes.old.items }
+    ensures len { vec_len bytes.new ≡ vec_len bytes.old }
+{
+    let room = bytes.capacity();
+    if room > KEPT && room / 16 > bytes.len() {
+        bytes.shrink_to(KEPT);
+    }
+}
+
 impl HeldText {
     /// Nothing in hand, at a byte place of the stream. The handler of the coder is one of those that texts are read with.
     /// It takes no memory.
@@ -92,6 +135,8 @@ impl HeldText {
             coder,
             known: KnownText::new(alloc, newline),
             bytes: Vec::new(alloc),
+            decoded: 0,
+            keeps: true,
             place,
         }
     }
@@ -123,10 +168,10 @@ impl HeldText {
     pub fn undecoded(&self) -> usize
         ensures { result ≡ length self.now.bytes }
     {
-        self.bytes.len()
+        self.bytes.len() - self.decoded
     }
 
-    /// The byte place of the stream at which the bytes in hand begin.
+    /// The byte place of the stream at which the bytes in hand begin that aren't decoded.
     pub fn place(&self) -> u64
         ensures place { result ≡ self.now.place }
         ensures near { result + length self.now.bytes ≤ greatest_place }
@@ -156,14 +201,16 @@ impl HeldText {
     }
 
     /// Decodes the bytes in hand as far as they go, and says why they go no further; `last` says that nothing comes behind
-    /// them. What they give is known then. A refused range stays in hand, and what was known before it is kept.
+    /// them. What they give is known then. A refused range stays in hand, and what was known before it stays known.
     ///
     /// `NoMemory` when out of memory, and all is as before.
     pub fn decode(&mut self, alloc: Global, last: bool) -> Result<HeldStop, IoFault>
         ensures { DecodeOutcome last self.old result self.new }
     {
-        let front = self.known.decode(alloc, self.coder, &self.bytes, last)?;
-        drop_front(&mut self.bytes, front.used);
+        let bytes = behind(&self.bytes, self.decoded);
+        let front = self.known.decode(alloc, self.coder, bytes, last)?;
+        let end = self.decoded + front.used;
+        self.decoded = keep_front(&mut self.bytes, end, self.keeps);
         let from = self.place;
         self.place += front.used as u64;
         match front.stop {
@@ -214,7 +261,8 @@ impl HeldText {
         self.known.find_last(wanted)
     }
 
-    /// Gives a front of what is known, which isn't known any more.
+    /// Gives a front of what is known, which isn't known any more. Once it has a character, bytes that were decoded aren't
+    /// kept any more.
     ///
     /// `NoMemory` when out of memory, and all is as before.
     pub fn give(&mut self, alloc: Global, front: TextFront) -> Result<String, IoFault>
@@ -222,17 +270,47 @@ impl HeldText {
         ensures { GiveOutcome front self.old result self.new }
     {
         let text = self.known.give(alloc, front)?;
+        if front.chars > 0 {
+            self.let_go();
+        }
         Ok(text)
+    }
+
+    /// Lets go of the bytes that are kept, and keeps none from here on.
+    fn let_go(&mut self)
+        ensures { self.new ≡ record self.old { kept = None; room = self.new.room } }
+    {
+        if self.keeps {
+            self.keeps = false;
+            self.decoded = keep_front(&mut self.bytes, self.decoded, false);
+            trim(&mut self.bytes);
+        }
+    }
+
+    /// Has all bytes in hand again, also those that were decoded, which are kept, to read them by other settings: nothing is
+    /// known then. It takes no memory.
+    pub fn read_anew(&mut self, coder: Coder, newline: Newlines)
+        requires reads { reads_texts coder.errors ≡ true }
+        requires kept { is_some self.old.kept ≡ true }
+        ensures anew { IfSome self.old.kept (λ kept. self.new ≡ held_anew coder newline kept self.old) }
+        ensures behind { IfSome self.old.kept (λ kept. length kept ≤ self.old.place) }
+    {
+        self.coder = coder;
+        self.known.clear(newline);
+        self.place -= self.decoded as u64;
+        self.decoded = 0;
     }
 
     /// Lets go of all that is in hand, and stands at another byte place of the stream.
     pub fn clear(&mut self, place: u64)
         requires near { place ≤ greatest_place }
-        ensures cleared { self.new ≡ record self.old { known = []; cr = false; bytes = []; place = place; order = Unknown; room = self.new.room } }
+        ensures cleared { self.new ≡ cleared self.old place self.new.room }
         ensures room { self.old.room ≤ self.new.room }
     {
-        self.known.clear();
+        self.known.clear(self.known.newline());
         self.bytes.clear();
+        self.decoded = 0;
+        self.keeps = true;
         self.place = place;
     }
 }

@@ -94,10 +94,11 @@ impl KnownText {
         self.count
     }
 
-    /// Lets go of all.
-    pub fn clear(&mut self)
-        ensures { self.new ≡ record self.old { characters = []; cr = false } }
+    /// Lets go of all, and reads by a rule from here on.
+    pub fn clear(&mut self, newline: Newlines)
+        ensures { self.new ≡ record { newline = newline; characters = []; cr = false } }
     {
+        self.newline = newline;
         self.text.clear();
         self.given = 0;
         self.count = 0;

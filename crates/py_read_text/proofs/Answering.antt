@@ -231,7 +231,7 @@ finishes_short old new asked count text live reads is short drained holds size s
     let known : List ℕ = old.held.known in
     let tied = tied_of old live reads is in
     let all : text_of text ≡ known = gave.0 ∙ take_all count known (omega (arith, size)) in
-    let left : TextView = record old { held = without_front old.held count; taken = old.taken + count; dirty = old.dirty || true } in
+    let left : TextView = record old { held = without_front old.held count new.held.room; taken = old.taken + count; dirty = old.dirty || true } in
     let none : left.held.known ≡ [] = drop_all count known (omega (arith, size)) in
     record {
       buffer = ap (λ (view : TextView). view.buffer) gave.1;
@@ -243,5 +243,5 @@ finishes_short old new asked count text live reads is short drained holds size s
       told = λ told. subst (λ (cs : List ℕ). TextFileStep (shown_file old) (call_of asked) (Text cs) true false (shown_file new)) (sym all)
           (subst (TextFileStep (shown_file old) (call_of asked) (Text known) true false) (sym (gave_file old new count true text gave ∙ ap (λ (n : ℕ). after_taking (shown_file old) n true) size)) (step_waits old asked (tied told) short some));
       hides = λ waits. subst (λ (view : TextView). HoldsNothing view.buffer × WhereShown old.buffer (ShowsAll (shown_file view) view.buffer.place)) (sym gave.1)
-          (holds, λ told. shows_all left (omega (arith, is.forth, is.stands)) none (record { items = drained.items; refusal = drained.refusal; none = drained.none }) (knows_given old.settings (flat_of old.buffer).bytes old.buffer.place old.at old.taken old.held count (omega (arith, size)) (tied told).knows));
+          (holds, λ told. shows_all left (omega (arith, is.forth, is.stands)) none (record { items = drained.items; refusal = drained.refusal; none = drained.none }) (knows_given old.settings (flat_of old.buffer).bytes old.buffer.place old.at old.taken old.held count new.held.room (omega (arith, size)) (tied told).knows));
     }

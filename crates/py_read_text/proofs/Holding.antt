@@ -1,5 +1,5 @@
 -- What holds of every text stays so.
-use Rattle.std.proofs.Common.{◌≡◌, ◌⊎◌, inl, inr, true, ℕ, ◌+◌, ◌-◌, ◌*◌, ◌≤◌, Bool, false, IsTrue, List, [], length, refl, sym, ap, subst, ◌∙◌, if◌then◌else◌, arith}
+use Rattle.std.proofs.Common.{◌≡◌, ◌⊎◌, inl, inr, true, ℕ, ◌+◌, ◌≤◌, Bool, false, IsTrue, List, [], ◌++◌, length, sym, ap, subst, ◌∙◌, arith}
 use Rattle.std.proofs.lemmas.List.{length-append, length-drop}
 use Rattle.py_flat.specs.declared.life.Life.TheVariants as life
 use Rattle.py_flat.specs.Bytes.{left_at}
@@ -12,8 +12,8 @@ use Rattle.py_raw.proofs.Telling.{tells_still}
 use Rattle.py_stream.specs.Buffer.{Buffer, WhereShown, flat_of}
 use Rattle.py_held_text.specs.Held.{HeldView}
 use Rattle.py_read_text.specs.Knowing.{KnowsTold, IsText}
-use Rattle.py_read_text.specs.Reading.{Follows, Reads, GaveTold, IsAtEnd}
-use Rattle.py_read_text.proofs.Knowing.{knows_follows, knows_part, knows_given, knows_end, with_part, without_front}
+use Rattle.py_read_text.specs.Reading.{Follows, Reads, GaveTold}
+use Rattle.py_read_text.proofs.Knowing.{knows_follows, knows_part, knows_given, with_part, whole_part, without_front, given_none}
 
 -- what is in hand was looked at
 pub text_follows : (buffer : Buffer) (old new : HeldView) (at taken : ℕ) (settings : TextSettings) (Behind : List ℕ → Type 0) → Follows Behind old new → WhereShown buffer ((more : List ℕ) → IsFrontOf more (left_at (flat_of buffer).bytes buffer.place) → Behind more) → IsText buffer old at taken settings → IsText buffer new at taken settings
@@ -28,12 +28,13 @@ text_follows buffer old new at taken settings Behind follows may is = record {
   far = is.far;
   forth = omega (arith, is.forth, follows.forth);
   few = omega (arith, is.forth, is.few, follows.forth, follows.few);
+  whole = λ none. let was = is.whole none in record { since = was.since; kept = follows.whole ∙ was.kept; reaches = was.reaches };
   told = λ told live reads. knows_follows settings (flat_of buffer).bytes buffer.place at taken Behind old new follows (may told) (is.told told live reads);
 }
 
 -- the room changes nothing
 in_room : (settings : TextSettings) (bytes : List ℕ) (far at taken : ℕ) (held : HeldView) (room : ℕ) → KnowsTold settings bytes far at taken held → KnowsTold settings bytes far at taken (record held { room = room })
-in_room settings bytes far at taken held room told = record { given = told.given; count = told.count; within = told.within; left = told.left; shows = told.shows; sound = told.sound }
+in_room settings bytes far at taken held room told = record { given = told.given; count = told.count; within = told.within; left = told.left; shows = told.shows; sound = told.sound; whole = told.whole }
 
 pub text_room : (buffer : Buffer) (held : HeldView) (at taken room : ℕ) (settings : TextSettings) → IsText buffer held at taken settings → IsText buffer (record held { room = room }) at taken settings
 text_room buffer held at taken room settings is = record {
@@ -47,6 +48,7 @@ text_room buffer held at taken room settings is = record {
   far = is.far;
   forth = is.forth;
   few = is.few;
+  whole = λ none. let was = is.whole none in record { since = was.since; kept = was.kept; reaches = was.reaches };
   told = λ told live reads. in_room settings (flat_of buffer).bytes buffer.place at taken held room (is.told told live reads);
 }
 
@@ -73,6 +75,7 @@ text_read_nothing before after held at taken settings waited faulted live reads 
   far = reads.far;
   forth = is.forth;
   few = is.few;
+  whole = λ none. let was = is.whole none in record { since = was.since; kept = was.kept; reaches = was.reaches ∙ sym place };
   told = λ told lives can.
       let was : IsTrue (tells before.raw) = sym (tells_still before.raw after.raw reads.keeps.raw) ∙ told in
       let knows = is.told was live (sym (ap (λ (abilities : Abilities). abilities.readable) reads.keeps.can) ∙ can) in
@@ -92,6 +95,7 @@ text_brought before after held part room at taken settings live reading reads pl
   far = reads.far;
   forth = is.forth;
   few = is.few;
+  whole = λ none. let was = is.whole none in record { since = was.since ++ part; kept = whole_part held.kept held.bytes part was.since was.kept; reaches = omega (arith, was.reaches, place, length-append was.since part) };
   told = λ told lives can.
       let was : IsTrue (tells before.raw) = sym (tells_still before.raw after.raw reads.keeps.raw) ∙ told in
       let knows = is.told was live (sym (ap (λ (abilities : Abilities). abilities.readable) reads.keeps.can) ∙ can) in
@@ -101,8 +105,8 @@ text_brought before after held part room at taken settings live reading reads pl
 }
 
 -- characters were given
-pub text_given : (buffer : Buffer) (held : HeldView) (at taken count : ℕ) (settings : TextSettings) → count ≤ length held.known → IsText buffer held at taken settings → IsText buffer (without_front held count) at (taken + count) settings
-text_given buffer held at taken count settings within is = record {
+pub text_given : (buffer : Buffer) (held : HeldView) (at taken count room : ℕ) (settings : TextSettings) → count ≤ length held.known → IsText buffer held at taken settings → IsText buffer (without_front held count room) at (taken + count) settings
+text_given buffer held at taken count room settings within is = record {
   reads_by = λ reads. let by = is.reads_by reads in record { encoding = by.encoding; handler = by.handler; newline = by.newline };
   asks = is.asks;
   buffered = is.buffered;
@@ -113,27 +117,9 @@ text_given buffer held at taken count settings within is = record {
   far = is.far;
   forth = is.forth;
   few = omega (arith, is.few, within, length-drop count held.known);
-  told = λ told live reads. knows_given settings (flat_of buffer).bytes buffer.place at taken held count within (is.told told live reads);
+  whole = λ none. let was = is.whole (omega (arith, none)) in record { since = was.since; kept = given_none held count room (omega (arith, none)) ∙ was.kept; reaches = was.reaches };
+  told = λ told live reads. knows_given settings (flat_of buffer).bytes buffer.place at taken held count room within (is.told told live reads);
 }
 
-pub given_so : (buffer : Buffer) (held new : HeldView) (at taken count : ℕ) (settings : TextSettings) → count ≤ length held.known → new ≡ without_front held count → IsText buffer held at taken settings → IsText buffer new at (taken + count) settings
-given_so buffer held new at taken count settings within given is = subst (λ (own : HeldView). IsText buffer own at (taken + count) settings) (sym given) (text_given buffer held at taken count settings within is)
-
--- all was given, at the end
-pub text_ended : (buffer : Buffer) (held : HeldView) (at taken : ℕ) (settings : TextSettings) → held.bytes ≡ [] → held.cr ≡ false → IsAtEnd buffer → IsText buffer held at taken settings → IsText buffer (record held { known = [] }) held.place 0 settings
-text_ended buffer held at taken settings none whole end is =
-    let there : buffer.place ≡ held.place = omega (arith, is.stands, ap length none) in
-    record {
-      reads_by = λ reads. let by = is.reads_by reads in record { encoding = by.encoding; handler = by.handler; newline = by.newline };
-      asks = is.asks;
-      buffered = is.buffered;
-      kept = is.kept;
-      owes = is.owes;
-      ahead = inl (sym there);
-      stands = is.stands;
-      far = is.far;
-      forth = omega arith;
-      few = subst (λ (cr : Bool). 0 + (0 + (if cr then 1 else 0)) ≤ 6 * (held.place - held.place)) (sym whole) (omega arith);
-      told = λ told live reads. subst (λ (far : ℕ). KnowsTold settings (flat_of buffer).bytes far held.place 0 (record held { known = [] })) (sym there)
-          (knows_end settings (flat_of buffer).bytes held.place (record held { known = [] }) refl whole none (is.reads_by reads).newline (subst (λ (far : ℕ). left_at (flat_of buffer).bytes far ≡ []) there (end told)));
-    }
+pub given_so : (buffer : Buffer) (held new : HeldView) (at taken count : ℕ) (settings : TextSettings) → count ≤ length held.known → new ≡ without_front held count new.room → IsText buffer held at taken settings → IsText buffer new at (taken + count) settings
+given_so buffer held new at taken count settings within given is = subst (λ (own : HeldView). IsText buffer own at (taken + count) settings) (sym given) (text_given buffer held at taken count new.room settings within is)

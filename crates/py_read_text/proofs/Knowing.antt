@@ -1,6 +1,6 @@
 -- How what is known of a text stays tied to the bytes below.
-use Rattle.std.proofs.Common.{◌≡◌, ℕ, ◌+◌, ◌-◌, ◌≤◌, true, false, List, [], ◌∷◌, ◌++◌, length, take, drop, None, refl, sym, ap, subst, ◌∙◌, arith}
-use Rattle.std.proofs.lemmas.List.{append-nil, append_assoc, length-append, length-drop, length-take-le, take-append-drop, take_all, drop-drop}
+use Rattle.std.proofs.Common.{◌≡◌, ℕ, ◌+◌, ◌-◌, ◌≤◌, true, false, List, [], ◌∷◌, ◌++◌, length, take, drop, Option, Some, None, option_map, refl, sym, ap, subst, ◌∙◌, arith}
+use Rattle.std.proofs.lemmas.List.{append-nil, append_assoc, length-append, length-drop, length-take-le, take-append-drop, drop-drop}
 use Rattle.std.proofs.Math.Seq.{take-add, drop-append_seam, take-append_seam}
 use Rattle.py_flat.specs.Bytes.{left_at}
 use Rattle.py_flat.specs.BinaryStep.{IsFrontOf}
@@ -10,11 +10,10 @@ use Rattle.py_plain.specs.Pieces.{walk_at}
 use Rattle.py_plain.specs.NewlineRule.{read_so_far, read_all}
 use Rattle.py_plain_text.specs.TextFile.{TextSettings}
 use Rattle.py_plain_text.specs.Rest.{Rest}
-use Rattle.py_held_text.specs.Held.{HeldView, ahead, left_with, left_so_far}
+use Rattle.py_held_text.specs.Held.{HeldView, ahead, kept_behind, whole_of, left_with, left_so_far}
 use Rattle.py_read_text.specs.Waiting.{bytes_between}
 use Rattle.py_read_text.specs.Knowing.{from_place, with_given, KnowsTold}
 use Rattle.py_read_text.specs.Reading.{Follows}
-use Rattle.py_read_text.proofs.Following.{so_far_none}
 
 -- a list is a front of itself
 itself : (xs : List ℕ) → IsFrontOf xs xs
@@ -32,6 +31,7 @@ knows_follows settings bytes far at taken Behind old new follows may told =
       left = told.left ∙ ap (with_given told.given) (sym (follows.left rest (may rest (itself rest))));
       shows = λ more front. omega (arith, told.shows more front, follows.shows more (may more front));
       sound = λ more front none. told.sound more front (follows.sound more (may more front) none);
+      whole = λ none since is. told.whole none since (sym follows.whole ∙ is);
     }
 
 -- nothing but nothing comes behind the end
@@ -46,6 +46,19 @@ ends_behind bytes far end more front = nothing_before more front.0 (front.1 ∙ 
 
 abbrev pub with_part : HeldView → List ℕ → ℕ → HeldView
 with_part held part room = record held { bytes = held.bytes ++ part; room = room }
+
+-- all bytes in hand, with those that came
+pub whole_part : (kept : Option (List ℕ)) (bytes part since : List ℕ) → option_map (λ front. front ++ bytes) kept ≡ Some since → option_map (λ front. front ++ (bytes ++ part)) kept ≡ Some (since ++ part)
+whole_part None bytes part since is = absurd (cc)
+whole_part (Some front) bytes part since is =
+    let same : front ++ bytes ≡ since = cc in
+    ap Some (sym (append_assoc front bytes part) ∙ ap (λ (xs : List ℕ). xs ++ part) same)
+
+was_whole : (kept : Option (List ℕ)) (bytes part all : List ℕ) → option_map (λ front. front ++ (bytes ++ part)) kept ≡ Some all → (since : List ℕ) × (option_map (λ front. front ++ bytes) kept ≡ Some since) × (all ≡ since ++ part)
+was_whole None bytes part all is = absurd (cc)
+was_whole (Some front) bytes part all is =
+    let same : front ++ (bytes ++ part) ≡ all = cc in
+    (front ++ bytes, refl, sym same ∙ sym (append_assoc front bytes part))
 
 left_part : (held : HeldView) (part more : List ℕ) (room : ℕ) → left_with (with_part held part room) more ≡ left_with held (part ++ more)
 left_part held part more room =
@@ -88,23 +101,30 @@ knows_part settings bytes far at taken held part room forth front told =
           (subst (λ (rest : Rest). length (left_so_far (from_place settings at) (bytes_between bytes at far ++ (part ++ more))).characters ≤ taken + length rest.characters) (sym (so_far_part held part more room)) (told.shows (part ++ more) (longer more own)));
       sound = λ more own none. subst (λ (all : List ℕ). (left_so_far (from_place settings at) all).refusal ≡ None) (sym (taken_bytes more))
           (told.sound (part ++ more) (longer more own) (sym (ap (λ (rest : Rest). rest.refusal) (so_far_part held part more room)) ∙ none));
+      whole = λ none since is.
+          let was = was_whole held.kept held.bytes part since is in
+          told.whole none was.0 was.1 ∙ (ap (λ (xs : List ℕ). was.0 ++ xs) split ∙ (sym (append_assoc was.0 part behind) ∙ ap (λ (xs : List ℕ). xs ++ behind) (sym was.2)));
     }
 
 -- Characters were given.
 
-abbrev pub without_front : HeldView → ℕ → HeldView
-without_front held count = record held { known = drop count held.known }
+abbrev pub without_front : HeldView → (count room : ℕ) → HeldView
+without_front held count room = record held { known = drop count held.known; kept = kept_behind count held.kept; room = room }
+
+-- where none were given what is kept is as it was
+pub given_none : (held : HeldView) (count room : ℕ) → count ≡ 0 → whole_of (without_front held count room) ≡ whole_of held
+given_none held count room none = ap (λ (n : ℕ). option_map (λ front. front ++ held.bytes) (kept_behind n held.kept)) none
 
 given_characters : (given known behind : List ℕ) (count : ℕ) → given ++ (known ++ behind) ≡ (given ++ take count known) ++ (drop count known ++ behind)
 given_characters given known behind count =
     sym (append_assoc given (take count known) (drop count known ++ behind)
     ∙ ap (λ (xs : List ℕ). given ++ xs) (sym (append_assoc (take count known) (drop count known) behind) ∙ ap (λ (xs : List ℕ). xs ++ behind) (take-append-drop count known)))
 
-pub knows_given : (settings : TextSettings) (bytes : List ℕ) (far at taken : ℕ) (held : HeldView) (count : ℕ) → count ≤ length held.known → KnowsTold settings bytes far at taken held → KnowsTold settings bytes far at (taken + count) (without_front held count)
-knows_given settings bytes far at taken held count within told =
+pub knows_given : (settings : TextSettings) (bytes : List ℕ) (far at taken : ℕ) (held : HeldView) (count room : ℕ) → count ≤ length held.known → KnowsTold settings bytes far at taken held → KnowsTold settings bytes far at (taken + count) (without_front held count room)
+knows_given settings bytes far at taken held count room within told =
     let rest : Rest = left_with held (left_at bytes far) in
     let behind : List ℕ = read_all held.newline held.cr (characters_of (ahead held true (left_at bytes far)).items) in
-    let sizes : (more : List ℕ) → count + length (left_so_far (without_front held count) more).characters ≡ length (left_so_far held more).characters = λ more.
+    let sizes : (more : List ℕ) → count + length (left_so_far (without_front held count room) more).characters ≡ length (left_so_far held more).characters = λ more.
     let sure : List ℕ = read_so_far held.newline held.cr (characters_of (ahead held false more).items) in
     omega (arith, within, length-append held.known sure, length-append (drop count held.known) sure, length-drop count held.known) in
     record {
@@ -114,19 +134,5 @@ knows_given settings bytes far at taken held count within told =
       left = told.left ∙ ap (λ (cs : List ℕ). let all : Rest = record { characters = cs; refusal = rest.refusal } in all) (given_characters told.given held.known behind count);
       shows = λ more front. omega (arith, told.shows more front, sizes more);
       sound = λ more front none. told.sound more front none;
-    }
-
--- nothing is in hand where nothing is left
-pub knows_end : (settings : TextSettings) (bytes : List ℕ) (place : ℕ) (held : HeldView) → held.known ≡ [] → held.cr ≡ false → held.bytes ≡ [] → held.newline ≡ settings.newline → left_at bytes place ≡ [] → KnowsTold settings bytes place place 0 held
-knows_end settings bytes place held known whole none rule end =
-    let between : bytes_between bytes place place ≡ [] = ap (take (place - place)) end ∙ take_all (place - place) [] (omega arith) in
-    let all : (more : List ℕ) → IsFrontOf more (left_at bytes place) → bytes_between bytes place place ++ more ≡ [] = λ more front. ap (λ (xs : List ℕ). xs ++ more) between ∙ ends_behind bytes place end more front in
-    let sure : (left_so_far (from_place settings place) []).characters ≡ [] = so_far_none settings.newline false in
-    record {
-      given = [];
-      count = refl;
-      within = omega arith;
-      left = rw (end, known, whole, none, rule) refl;
-      shows = λ more front. subst (λ (own : List ℕ). length (left_so_far (from_place settings place) own).characters ≤ 0 + length (left_so_far held more).characters) (sym (all more front)) (omega (arith, ap length sure));
-      sound = λ more front says. subst (λ (own : List ℕ). (left_so_far (from_place settings place) own).refusal ≡ None) (sym (all more front)) refl;
+      whole = λ none since is. told.whole (omega (arith, none)) since (sym (given_none held count room (omega (arith, none))) ∙ is);
     }

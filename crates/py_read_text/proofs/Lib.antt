@@ -13,6 +13,7 @@ mod Chunks
 mod Stopping
 mod Beginning
 pub mod Placing
+mod Changing
 pub mod Owing
 mod Laying
 pub mod Fronts

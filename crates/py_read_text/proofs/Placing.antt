@@ -14,21 +14,21 @@ use Rattle.py_flat.specs.Calls.{FileReply, Place, Refused, Write, Seek, Flush, C
 use Rattle.py_flat.specs.Refusals.{refusal, is_unbuffered, too_far}
 use Rattle.py_flat.specs.AllowedStep.{settled, waited_for, raw_faulted, out_of_memory}
 use Rattle.py_flat.specs.BinaryStep.{SettledBy, BinaryStep}
-use Rattle.py_plain.specs.Units.{Unknown}
 use Rattle.py_plain_text.specs.TextFile.{TextSettings}
 use Rattle.py_raw.specs.RawStream.{tells, AnswersFor}
-use Rattle.py_raw.proofs.Telling.{tells_still}
+use Rattle.py_raw.proofs.Telling.{tells_still, keeps_same}
 use Rattle.py_stream.specs.Writing.{OwesUpTo, PassesFront, Takes}
 use Rattle.py_stream.specs.Kinds.{says_fault}
 use Rattle.py_stream.specs.Replies.{done_reply, place_reply}
 use Rattle.py_stream.specs.Answers.{LifeMoves, PlaceMoves, PlaceStarves}
 use Rattle.py_stream.specs.Buffer.{Buffer, WhereShown, flat_of, size_shown, stream_shown, refused_here, KeepsBuffer, AnswersAsBuffer}
-use Rattle.py_held_text.specs.Held.{HeldView}
+use Rattle.py_held_text.specs.Held.{HeldView, cleared}
 use Rattle.py_read_text.specs.Knowing.{TextView, from_place, KnowsTold, ReadsBy, IsText}
 use Rattle.py_read_text.specs.Writing.{unit_of, LeavesFlat, ReturnOutcome}
 use Rattle.py_read_text.proofs.Fetching.{rest_up_to, drop_none}
 use Rattle.py_read_text.proofs.Beginning.{knows_begun}
 use Rattle.py_read_text.proofs.Fronts.{laid_none, lays_alone}
+use Rattle.py_read_text.proofs.Knowing.{without_front}
 
 -- The flat bytes.
 
@@ -44,9 +44,6 @@ flush_flat file after reply short faulted (raw_faulted faults says left) = left.
 flush_flat file after reply short faulted (out_of_memory says left) = ap (λ (own : FlatFile). own.bytes) left.1
 
 -- The text.
-
-abbrev pub cleared : HeldView → (place room : ℕ) → HeldView
-cleared held place room = record held { known = []; cr = false; bytes = []; place = place; order = Unknown; room = room }
 
 cleared_so : (held : HeldView) (settings : TextSettings) (place room : ℕ) → ReadsBy settings held → record (from_place settings place) { room = room } ≡ cleared held place room
 cleared_so held settings place room by = rw (by.encoding, by.handler, by.newline) refl
@@ -67,11 +64,18 @@ text_cleared before after held at taken place room settings keeps owes far there
   far = far;
   forth = omega arith;
   few = omega arith;
+  whole = λ zero. record { since = []; kept = refl; reaches = omega (arith, there) };
   told = λ told lives can.
       let by = is.reads_by (reading_still before after keeps can) in
       subst (λ (own : ℕ). KnowsTold settings (flat_of after).bytes own place 0 (cleared held place room)) there
       (subst (λ (own : HeldView). KnowsTold settings (flat_of after).bytes place place 0 own) (cleared_so held settings place room by) (knows_begun settings (flat_of after).bytes place room));
 }
+
+-- a text that came to the end, which lets go of all that it has in hand
+pub text_ended : (buffer : Buffer) (held given new : HeldView) (at taken count place : ℕ) (settings : TextSettings) → place ≡ buffer.place → given ≡ without_front held count given.room → new ≡ cleared given place new.room → IsText buffer held at taken settings → IsText buffer new place 0 settings
+text_ended buffer held given new at taken count place settings there given_is new_is is =
+    subst (λ (own : HeldView). IsText buffer own place 0 settings) (sym (new_is ∙ ap (λ (own : HeldView). cleared own place new.room) given_is))
+    (text_cleared buffer buffer held at taken place new.room settings (record { raw = keeps_same buffer.raw; can = refl; buffering = refl; exported = refl }) is.owes is.far there is)
 
 -- what is owed after a call that neither reads nor writes
 owes_still : (before after : Buffer) → PassesFront (stream_shown before) (stream_shown after) → after.place ≡ before.place → OwesUpTo before.owed before.place → OwesUpTo after.owed after.place
@@ -97,6 +101,7 @@ text_called before after held at taken settings live keeps passes place flat is 
   far = omega (arith, place, is.far);
   forth = is.forth;
   few = is.few;
+  whole = λ none. let was = is.whole none in record { since = was.since; kept = was.kept; reaches = was.reaches ∙ sym place };
   told = λ told lives can.
       let was : IsTrue (tells before.raw) = sym (tells_still before.raw after.raw keeps.raw) ∙ told in
       let knows = is.told was live (reading_still before after keeps can) in

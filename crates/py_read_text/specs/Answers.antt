@@ -14,7 +14,7 @@ use Rattle.py_flat.specs.ExactStep.{is_closed}
 use Rattle.py_codec.specs.Answers.{text_of}
 use Rattle.py_plain_text.specs.TextFile.{TextPlace, clean_at, TextSettings}
 use Rattle.py_plain_text.specs.TextStep.{asks_any, place_taking}
-use Rattle.py_plain_text.specs.TextCalls.{TextFileCall, Read, ReadLine, WriteText, SetChunkSize, Flush, Close, OtherKind}
+use Rattle.py_plain_text.specs.TextCalls.{TextFileCall, Read, ReadLine, WriteText, Reconfigure, SetChunkSize, Flush, Close, OtherKind, changed}
 use Rattle.py_plain_text.specs.TextRefusals.{refusal}
 use Rattle.py_plain_text.specs.TextAllowed.{TextFileStep}
 use Rattle.py_plain_text.specs.TextWriting.{written_bytes}
@@ -42,11 +42,11 @@ gives_text (Read size) = true
 gives_text (ReadLine limit) = true
 gives_text call = false
 
--- whether a call calls no buffer: it asks for no character, only says how many bytes the buffer is asked for at once, or is one that texts
--- don't have
+-- whether a call calls no buffer: it asks for no character, only changes settings, or is one that texts don't have
 abbrev pub calls_nothing : TextFileCall → Bool
 calls_nothing (Read (Some zero)) = true
 calls_nothing (ReadLine (Some zero)) = true
+calls_nothing (Reconfigure changes) = true
 calls_nothing (SetChunkSize size) = true
 calls_nothing OtherKind = true
 calls_nothing call = false
@@ -66,6 +66,7 @@ IsAnswerTo (Read size) (Refused (fault.UnicodeDecodeError start end)) = Unit {0}
 IsAnswerTo (ReadLine limit) (Text characters) = Unit {0}
 IsAnswerTo (ReadLine limit) (Refused (fault.UnicodeDecodeError start end)) = Unit {0}
 IsAnswerTo (WriteText text) (Count count) = count ≡ length text
+IsAnswerTo (Reconfigure changes) reply = reply ≡ Done
 IsAnswerTo (SetChunkSize size) reply = reply ≡ Done
 IsAnswerTo Flush Done = Unit {0}
 IsAnswerTo Close Done = Unit {0}
@@ -74,6 +75,7 @@ IsAnswerTo call reply = ⊥
 
 -- the replies that an accepted call may have at all: one that passes on what was written has to wait only over a buffer that writes
 abbrev pub IsReplyTo : Bool → TextFileCall → FileReply → Type 0
+IsReplyTo writes (Reconfigure changes) reply = reply ≡ Done
 IsReplyTo writes (SetChunkSize size) reply = reply ≡ Done
 IsReplyTo writes (Read size) NotReady = Unit {0}
 IsReplyTo writes (ReadLine limit) NotReady = Unit {0}
@@ -109,6 +111,7 @@ LifeMoves writes call (Refused fault.NoMemory) before after = (after ≡ before)
 LifeMoves writes call reply before after = after ≡ life_after call reply before
 
 abbrev pub settings_after : TextFileCall → FileReply → TextSettings → TextSettings
+settings_after (Reconfigure changes) Done settings = changed settings changes
 settings_after (SetChunkSize size) Done settings = record settings { chunk_size = size }
 settings_after call reply settings = settings
 
@@ -255,7 +258,7 @@ pub record Answers (before : TextState) (call : TextFileCall) (reply : FileReply
   pub counted : IsTrue before.text.buffer.raw.counts_exactly → IsCounted before call reply after
   -- which answers are short
   pub shorts : IsShort reply after.short
-  -- a reading of no characters, a change of the chunk size and a call that texts lack leave the buffer and its raw as they were
+  -- a reading of no characters, a change of settings and a call that texts lack leave the buffer and its raw as they were
   pub nothing : calls_nothing call ≡ true → after.text.buffer ≡ before.text.buffer
   -- life, settings and place after the call
   pub moves : TextMoves before call reply after

@@ -19,7 +19,7 @@ use Rattle.py_stream.specs.Writing.{OwesUpTo}
 use Rattle.py_stream.specs.Buffer.{Buffer, WhereShown, flat_of, KeepsBuffer, IsClosedWithRaw}
 use Rattle.py_held_text.specs.declared.wanted.Wanted.{Wanted}
 use Rattle.py_held_text.specs.declared.wanted.Wanted.TheVariants.{Characters, Line}
-use Rattle.py_held_text.specs.Held.{HeldView, ahead, left_with, left_so_far}
+use Rattle.py_held_text.specs.Held.{HeldView, cleared, ahead, kept_behind, whole_of, left_with, left_so_far}
 use Rattle.py_held_text.specs.Decodes.{KeepsSettings, known_with_cr, IsDrained}
 use Rattle.py_held_text.specs.Finding as held_front
 use Rattle.py_held_text.specs.Finding.{enough, enough_before}
@@ -47,11 +47,12 @@ call_of (Characters size) = Read size
 call_of (Line limit) = ReadLine limit
 
 -- What is in hand was looked at: more of it may be known, and what is left is as it was, whatever comes behind it, of which `Behind` says
--- what that may be; nothing that was surely left is so no more
+-- what that may be; nothing that was surely left is so no more. Where bytes are kept all are
 pub record Follows (Behind : List ℕ → Type 0) (old new : HeldView) : Type 0 where
   pub settings : KeepsSettings old new
   pub stands : new.place + length new.bytes ≡ old.place + length old.bytes
   pub forth : old.place ≤ new.place
+  pub whole : whole_of new ≡ whole_of old
   pub few : known_with_cr new + 6 * old.place ≤ known_with_cr old + 6 * new.place
   pub left : (more : List ℕ) → Behind more → left_with new more ≡ left_with old more
   pub shows : (more : List ℕ) → Behind more → length (left_so_far old more).characters ≤ length (left_so_far new more).characters
@@ -266,12 +267,12 @@ pub record Gathers (old : TextView) (asked : Wanted) (new : TextView) : Type 0 w
 
 -- the first of the known characters are given and taken
 abbrev pub GiveOutcome : TextView → ℕ → Bool → Result (String Global) IoFault → TextView → Type 0
-GiveOutcome old count asks (Ok text) new = (text_of text ≡ take count old.held.known) × (new ≡ record old { held = record old.held { known = drop count old.held.known }; taken = old.taken + count; dirty = old.dirty || asks })
+GiveOutcome old count asks (Ok text) new = (text_of text ≡ take count old.held.known) × (new ≡ record old { held = record old.held { known = drop count old.held.known; kept = kept_behind count old.held.kept; room = new.held.room }; taken = old.taken + count; dirty = old.dirty || asks })
 GiveOutcome old count asks (Err why) new = (why ≡ fault.NoMemory) × (new ≡ old)
 
 -- all known characters are given, and the text stands clean at the end
 abbrev pub GiveAllOutcome : TextView → Result (String Global) IoFault → TextView → Type 0
-GiveAllOutcome old (Ok text) new = (text_of text ≡ old.held.known) × (new ≡ record old { held = record old.held { known = [] }; at = old.buffer.place; taken = 0; dirty = false })
+GiveAllOutcome old (Ok text) new = (text_of text ≡ old.held.known) × (new ≡ record old { held = cleared old.held old.buffer.place new.held.room; at = old.buffer.place; taken = 0; dirty = false })
 GiveAllOutcome old (Err why) new = (why ≡ fault.NoMemory) × (new ≡ old)
 
 -- Answers.

@@ -1,13 +1,14 @@
 //! The text over a buffered stream: it asks for chunks, decodes what it has in hand, and answers from the characters that it knows. It never
 //! holds the whole stream.
-ghost use Rattle.std.specs.Prelude.{◌≡◌, Bool, ◌<◌, ◌≤◌, ◌+◌, ◌||◌, true, false, [], length, take, drop, OnErr, IfOk, IfErr, MatchResult};
+ghost use Rattle.std.specs.Prelude.{◌≡◌, Bool, ◌<◌, ◌≤◌, ◌+◌, ◌||◌, true, false, [], length, take, drop, OnErr, IfOk, IfErr, IfSome, MatchResult};
 ghost use Rattle.py_flat.specs.Calls as binary;
 ghost use Rattle.py_flat.specs.Calls.{Write};
-ghost use Rattle.py_plain_text.specs.TextCalls.{Flush, Close};
+ghost use Rattle.py_plain_text.specs.TextCalls.{Flush, Close, changes_reading, changed};
 ghost use Rattle.py_stream.specs.Kinds.{says_wait};
 ghost use Rattle.py_stream.specs.Replies.{count_reply, done_reply};
 ghost use Rattle.py_flat.specs.Limits.{greatest_place};
 ghost use Rattle.py_plain.specs.Handlers.{reads_texts};
+ghost use Rattle.py_text.specs.Settings.{changes_of};
 ghost use Rattle.py_read_text.specs.TextState.{settings_of};
 ghost use Rattle.py_codec.specs.Answers.{text_of};
 ghost use Rattle.py_plain_text.specs.TextStep.{asks_any};
@@ -15,7 +16,7 @@ ghost use Rattle.py_stream.specs.Writing.{OwesUpTo, Takes};
 ghost use Rattle.py_stream.specs.Buffer.{WhereShown, flat_of, stream_shown, AnswersAsBuffer};
 ghost use Rattle.py_held_text.specs.Finding.{IsFrontOf, answer_of};
 ghost use Rattle.py_read_text.specs.Reading.{size_of, asks_all, KeepsPlace, FetchOutcome, GatherOutcome, GathersAsNeeded, asks_none, GiveOutcome, GiveAllOutcome, GatheredAt, Finishes, OnlyWhereWaits, WaitsOrLacks, reply_of, call_of, waited_in};
-ghost use Rattle.py_read_text.specs.Knowing.{over_of, state_of, IsClean};
+ghost use Rattle.py_read_text.specs.Knowing.{over_of, state_of, IsClean, IsSetTo};
 ghost use Rattle.py_read_text.specs.Writing.{StandsBehind, ReturnOutcome};
 ghost use Rattle.py_read_text.specs.Owing.{IsJoined};
 ghost use Rattle.py_read_text.specs.Answers.{Answers};
@@ -24,8 +25,9 @@ use crate::looking::{Gathered, look, look_at_end};
 use crate::opening::reading_coder;
 use py_flat::{IoFault, Life};
 use py_held_text::{Coder, HeldFront, HeldText, Wanted};
+use py_plain::Newlines;
 use py_stream::BufferedStream;
-use py_text::TextSettings;
+use py_text::{Reconfigure, TextSettings};
 use std::alloc::Global;
 use std::fmt;
 use std::marker::Model;
@@ -195,6 +197,44 @@ impl<B: BufferedStream> ReadText<B> {
         ensures { self.new ≡ record self.old { settings = record self.old.settings { chunk_size = size } } }
     {
         self.settings.chunk_size = size;
+    }
+
+    /// Changes settings; those that aren't given stay. How a text is read may change only while no character of it was taken.
+    pub fn reconfigure(&mut self, changes: Reconfigure)
+        requires clean { changes_reading (changes_of changes) ≡ true → self.old.taken ≡ 0 }
+        requires reads { self.old.buffer.can.readable ≡ true → IfSome changes.errors (λ handler. reads_texts handler ≡ true) }
+        ensures changed { IsSetTo (changed self.old.settings (changes_of changes)) self.old self.new }
+        ensures joined { IsJoined (over_of self.new) }
+    {
+        // The handler of what is in hand is one that texts are read with.
+        let _ = self.held.coder();
+        let coder = changes.coder_after(self.coder);
+        let settings = changes.settings_after(self.settings);
+        if changes.changes_reading() {
+            self.read_as(coder, settings.newline);
+        }
+        self.write_as(settings.line_buffering, settings.write_through);
+    }
+
+    /// Reads by another codec and rule from the text place on, behind which no character was taken: what was decoded is decoded anew.
+    fn read_as(&mut self, coder: Coder, newline: Newlines)
+        requires clean { self.old.taken ≡ 0 }
+        requires reads { self.old.buffer.can.readable ≡ true → reads_texts coder.errors ≡ true }
+        ensures { IsSetTo (record self.old.settings { encoding = coder.encoding; handler = coder.errors; newline = newline }) self.old self.new }
+    {
+        let reading = reading_coder(self.buffer.readable(), coder);
+        self.held.read_anew(reading, newline);
+        self.coder = coder;
+        self.settings.newline = newline;
+    }
+
+    /// Hands the buffer what is written by other settings from here on.
+    fn write_as(&mut self, line_buffering: bool, write_through: bool)
+        ensures set { self.new ≡ record self.old { settings = record self.old.settings { line_buffering = line_buffering; write_through = write_through } } }
+        ensures joined { IsJoined (over_of self.new) }
+    {
+        self.settings.line_buffering = line_buffering;
+        self.settings.write_through = write_through;
     }
 
     /// Closes the live buffer.
@@ -371,6 +411,7 @@ impl<B: BufferedStream> ReadText<B> {
         let front = self.held.find_last(Wanted::Characters(None));
         let text = self.held.give(alloc, front)?;
         self.at = self.held.place();
+        self.held.clear(self.at);
         self.taken = 0;
         self.dirty = false;
         Ok(text)

@@ -1,4 +1,5 @@
 mod Refusing
+mod Changing
 mod Settling
 mod Working
 mod Over

@@ -11,7 +11,7 @@ use Rattle.py_flat.specs.AllowedStep.{settled}
 use Rattle.py_flat.proofs.Settling.{blames}
 use Rattle.py_plain_text.specs.TextFile.{TextFile, TextPlace, TextSettings}
 use Rattle.py_plain_text.specs.TextOver.{TextOver}
-use Rattle.py_plain_text.specs.TextCalls.{TextFileCall, Read, ReadLine, WriteText, SetChunkSize, Flush, Close, OtherKind}
+use Rattle.py_plain_text.specs.TextCalls.{TextFileCall, Read, ReadLine, WriteText, Reconfigure, SetChunkSize, Flush, Close, OtherKind}
 use Rattle.py_plain_text.specs.TextRefusals.{refusal}
 use Rattle.py_plain_text.specs.TextExact.{with_chunk_size}
 use Rattle.py_plain_text.specs.TextAllowed.{SettledBy, TextFileStep}
@@ -61,6 +61,7 @@ keeps_refused (WriteText text) why after = tt
 keeps_refused call why after = tt
 
 settings_refused : (call : TextFileCall) (why : IoFault) (settings : TextSettings) → settings ≡ settings_after call (Refused why) settings
+settings_refused (Reconfigure changes) why settings = refl
 settings_refused (SetChunkSize size) why settings = refl
 settings_refused call why settings = refl
 
@@ -148,7 +149,7 @@ never_again : (asked : Wanted) (current : Life) → closes_again current (call_o
 never_again (Characters size) current = refl
 never_again (Line limit) current = refl
 
-own_life : (current : Life) (why : IoFault) → life_fault current ≡ Some why → blames why ≡ false
+pub own_life : (current : Life) (why : IoFault) → life_fault current ≡ Some why → blames why ≡ false
 own_life life.Live why is = absurd (cc)
 own_life life.Failed why is = let same : fault.Failed ≡ why = cc in ap blames (sym same)
 own_life life.Closed why is = let same : fault.Closed ≡ why = cc in ap blames (sym same)

@@ -3,6 +3,8 @@ ghost use Rattle.std.specs.Prelude.{◌≡◌, ◌≢◌, ◌≤◌, ◌-◌, tr
 ghost use Rattle.py_flat.specs.Calls.{Refused};
 ghost use Rattle.py_flat.specs.ExactStep.{is_closed};
 ghost use Rattle.py_plain_text.specs.TextCalls.{Read, ReadLine, WriteText, SetChunkSize, Flush, Close, OtherKind};
+ghost use Rattle.py_plain_text.specs.TextCalls as text_call;
+ghost use Rattle.py_text.specs.Settings.{changes_of};
 ghost use Rattle.py_stream.specs.Kinds.{says_wait};
 ghost use Rattle.py_stream.specs.Replies.{count_reply, done_reply};
 ghost use Rattle.py_stream.specs.Writing.{OwesUpTo};
@@ -19,7 +21,7 @@ use py_held_text::{Coder, Wanted};
 use py_plain::{Encoding, Handler, Newlines};
 use py_read_text::{Answer, ReadText, place_of, refusal};
 use py_stream::{BufferedStream, NewRefused};
-use py_text::TextSettings;
+use py_text::{Reconfigure, TextSettings};
 use std::alloc::Global;
 use std::marker::Model;
 
@@ -132,6 +134,25 @@ impl<B: BufferedStream> TextIOWrapper<B> {
                 self.text.set_chunksize(size);
                 Ok(())
             }
+            Life::Failed => Err(IoFault::Failed),
+            Life::Closed => Err(IoFault::Closed),
+            Life::Detached => Err(IoFault::Detached),
+        }
+    }
+
+    /// Gives it other settings: those that aren't given stay. It calls no raw, and takes no memory.
+    ///
+    /// From its place on the text is read by the new ones: also what was decoded by the old ones and not given, as after a read that was
+    /// refused. What was written by then keeps its bytes, and what the text owes of them it owes still.
+    ///
+    /// `SeekFirst` where encoding, errors or newline are given and the text was read since it was placed, or since a `read` of all came to
+    /// its end; `UnknownHandler` where the handler isn't one of the directions of its buffer: with all as it was.
+    pub fn reconfigure(&mut self, changes: Reconfigure) -> Result<(), IoFault>
+        ensures { Answers self.old (text_call.Reconfigure (changes_of changes)) (done_reply result) self.new }
+    {
+        self.short = false;
+        match self.text.life() {
+            Life::Live => self.text.reconfigure(changes),
             Life::Failed => Err(IoFault::Failed),
             Life::Closed => Err(IoFault::Closed),
             Life::Detached => Err(IoFault::Detached),

@@ -2,6 +2,9 @@
 ghost use Rattle.std.specs.Prelude.{◌≡◌, ◌≢◌, ◌+◌, ◌-◌, ◌<◌, ◌≤◌, ◌&&◌, Bool, true, false, None, [], ◌++◌, length, take, chars, vec_len, vec_capacity, OnOk, OnErr, IfErr};
 ghost use Rattle.py_flat.specs.Limits.{greatest_place};
 ghost use Rattle.py_plain_text.specs.TextCalls.{WriteText, Flush, Close};
+ghost use Rattle.py_plain_text.specs.TextCalls as text_call;
+ghost use Rattle.py_plain_text.specs.TextRefusals.{changes_refusal};
+ghost use Rattle.py_text.specs.Settings.{changes_of};
 ghost use Rattle.py_plain_text.specs.TextWriting.{writes_texts, written_bytes, written_refusal};
 ghost use Rattle.py_flat.specs.Calls.{Refused};
 ghost use Rattle.py_stream.specs.Kinds.{says_wait, says_fault};
@@ -10,14 +13,14 @@ ghost use Rattle.py_read_text.specs.Reading.{call_of, asks_none, reply_of, waite
 ghost use Rattle.py_read_text.specs.Owing.{IsJoined};
 ghost use Rattle.py_read_text.specs.Knowing.{over_of as read_of};
 ghost use Rattle.py_read_text.specs.Answers.{Answers};
-ghost use Rattle.py_textio.specs.Written.{over_of, state_of, place_now, HasRoom, StandsToWrite, SettleOutcome, stopped_reply, with_taken, RoomFor, BackOutcome, PassOutcome, HandOutcome};
+ghost use Rattle.py_textio.specs.Written.{over_of, state_of, file_now, place_now, HasRoom, StandsToWrite, SettleOutcome, stopped_reply, with_taken, RoomFor, BackOutcome, PassOutcome, HandOutcome};
 
 use py_flat::{IoFault, Life};
 use py_held_text::{Coder, Wanted, drop_front};
 use py_raw::GREATEST_PLACE;
 use py_read_text::{Answer, ReadText};
 use py_stream::BufferedStream;
-use py_text::TextSettings;
+use py_text::{Reconfigure, TextSettings, is_of_stream};
 use py_written_text::{WrittenSize, has_line_end, push_written_text, written_size};
 use std::alloc::Global;
 use std::marker::Model;
@@ -164,6 +167,34 @@ impl<B: BufferedStream> WrittenText<B> {
         ensures { self.new ≡ record self.old { text = record self.old.text { settings = record self.old.text.settings { chunk_size = size } } } }
     {
         self.text.set_chunksize(size);
+    }
+
+    /// What refuses other settings, if anything does.
+    fn refuses(&self, changes: Reconfigure) -> Option<IoFault>
+        ensures { result ≡ changes_refusal (file_now self.now) (changes_of changes) }
+    {
+        if changes.changes_reading() && self.text.is_dirty() {
+            return Some(IoFault::SeekFirst);
+        }
+        let handler = changes.errors?;
+        if is_of_stream(self.readable(), self.writable(), handler) {
+            return None;
+        }
+        Some(IoFault::UnknownHandler)
+    }
+
+    /// Changes settings; those that aren't given stay.
+    pub fn reconfigure(&mut self, changes: Reconfigure) -> Result<(), IoFault>
+        requires live { self.old.life ≡ Life.Live }
+        ensures { Answers (state_of self.old false) (text_call.Reconfigure (changes_of changes)) (done_reply result) (state_of self.new false) }
+    {
+        // What holds of every text is known from here on.
+        let _ = self.life();
+        if let Some(fault) = self.refuses(changes) {
+            return Err(fault);
+        }
+        self.text.reconfigure(changes);
+        Ok(())
     }
 
     /// The buffer, the bytes that it hasn't taken, where there are some with room for as many more as the buffer holds, and the place where

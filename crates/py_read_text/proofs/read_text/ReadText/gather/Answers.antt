@@ -63,3 +63,11 @@ pub returns-in-Waits-clause-needs : goal.returns-in-Waits-clause-needs
 returns-in-Waits-clause-needs g c =
     let came = rw c.in-Waits.is at c.in_ok-fetch.ensures.outcome in
     needs_at c.args.self.now c.loop-stop.self c.args.wanted _ (came.0.place ∙ ap (λ (view : TextView). view.buffer.place) c.self-in-loop-stop.view_is) c.loop-stop.invariant.needs
+
+pub returns-in_err-stop-clause-needs : goal.returns-in_err-stop-clause-needs
+returns-in_err-stop-clause-needs g c = needs_at c.args.self.now c.loop-stop.self c.args.wanted _ (ap (λ (view : TextView). view.buffer.place) c.self-in-loop-stop.view_is) c.loop-stop.invariant.needs
+
+pub returns-in_err-fetch-clause-nothing : goal.returns-in_err-fetch-clause-nothing
+returns-in_err-fetch-clause-nothing g c =
+    let looked = rw c.in_default.is at c.in_ok-stop.ensures.outcome in
+    λ none. asks_some c.args.wanted _ _ _ looked.0 none

@@ -1,0 +1,114 @@
+-- A text that is given other settings.
+use Rattle.std.proofs.Common.{◌≡◌, ℕ, ◌+◌, ◌-◌, ◌≤◌, max, Bool, true, false, ◌||◌, List, [], ◌++◌, length, take, Option, Some, None, is_some, option_map, unwrap_or, IfSome, refl, sym, ap, ◌∙◌, subst, arith}
+use Rattle.std.proofs.lemmas.List.{length-append}
+use Rattle.std.proofs.Math.Seq.{take-append_seam}
+use Rattle.py_flat.specs.Bytes.{left_at}
+use Rattle.py_plain.specs.declared.encoding.Encoding.{Encoding}
+use Rattle.py_plain.specs.declared.handler.Handler.{Handler}
+use Rattle.py_plain.specs.declared.newlines.Newlines.{Newlines}
+use Rattle.py_plain_text.specs.TextFile.{TextSettings}
+use Rattle.py_plain_text.specs.TextCalls.{Changes, changes_reading, changed}
+use Rattle.py_stream.specs.Buffer.{Buffer, flat_of}
+use Rattle.py_held_text.specs.Held.{HeldView, nothing_held, whole_of, held_anew, left_with, left_so_far}
+use Rattle.py_text.specs.declared.coder.Coder.{Coder}
+use Rattle.py_read_text.specs.Waiting.{bytes_between}
+use Rattle.py_read_text.specs.Knowing.{TextView, from_place, KnowsTold, IsText, IsSetTo}
+
+-- all bytes since a place are in hand again, and none is decoded
+abbrev pub held_from : TextSettings → ℕ → List ℕ → ℕ → HeldView
+held_from settings at since room = record (from_place settings at) { bytes = since; room = room }
+
+-- what is left of them is what is left from the place on, by whichever settings
+pub knows_anew : (settings : TextSettings) (bytes : List ℕ) (far at room : ℕ) (since : List ℕ) → at + length since ≡ far → left_at bytes at ≡ since ++ left_at bytes far → far ≤ max at (length bytes) → KnowsTold settings bytes far at 0 (held_from settings at since room)
+knows_anew settings bytes far at room since reaches split within =
+    let count : far - at ≡ length since = omega (arith, reaches) in
+    let between : bytes_between bytes at far ≡ since = ap (λ (n : ℕ). take n (left_at bytes at)) count ∙ (ap (take (length since)) split ∙ take-append_seam since (left_at bytes far)) in
+    record {
+      given = [];
+      count = refl;
+      within = within;
+      left = ap (left_with (from_place settings at)) split;
+      shows = λ more front. subst (λ (own : List ℕ). length (left_so_far (from_place settings at) (own ++ more)).characters ≤ 0 + length (left_so_far (held_from settings at since room) more).characters) (sym between) (omega arith);
+      sound = λ more front says. subst (λ (own : List ℕ). (left_so_far (from_place settings at) (own ++ more)).refusal ≡ None) (sym between) says;
+      whole = λ none all is. let same : since ≡ all = cc in split ∙ ap (λ (own : List ℕ). own ++ left_at bytes far) same;
+    }
+
+-- settings by which a text is read otherwise
+abbrev pub set_to : TextSettings → Coder → Newlines → TextSettings
+set_to settings coder newline = record settings { encoding = coder.encoding; handler = coder.errors; newline = newline }
+
+abbrev held_by : Coder → Newlines → (at : ℕ) → List ℕ → (room : ℕ) → HeldView
+held_by coder newline at since room = record (nothing_held coder newline at room) { bytes = since }
+
+anew_is : (held new : HeldView) (coder : Coder) (newline : Newlines) (at : ℕ) (since : List ℕ) → whole_of held ≡ Some since → held.place + length held.bytes ≡ at + length since → IfSome held.kept (λ kept. new ≡ held_anew coder newline kept held) → IfSome held.kept (λ kept. length kept ≤ held.place) → new ≡ held_by coder newline at since held.room
+anew_is held new coder newline at since whole stands anew behind = by_kept held.kept whole anew behind
+  where
+    by_kept : (kept : Option (List ℕ)) → option_map (λ front. front ++ held.bytes) kept ≡ Some since → IfSome kept (λ front. new ≡ held_anew coder newline front held) → IfSome kept (λ front. length front ≤ held.place) → new ≡ held_by coder newline at since held.room
+    by_kept None whole anew behind = absurd (cc)
+    by_kept (Some front) whole anew behind =
+        let all : front ++ held.bytes ≡ since = cc in
+        let there : held.place - length front ≡ at = omega (arith, stands, behind, ap (λ (xs : List ℕ). length xs) all, length-append front held.bytes) in
+        anew ∙ (ap (λ (bytes : List ℕ). held_by coder newline (held.place - length front) bytes held.room) all ∙ ap (λ (place : ℕ). held_by coder newline place since held.room) there)
+
+-- a text of which nothing was taken, read anew
+pub text_anew : (buffer : Buffer) (held new : HeldView) (at taken : ℕ) (coder reading : Coder) (newline : Newlines) (settings : TextSettings) → taken ≡ 0 → IfSome held.kept (λ kept. new ≡ held_anew reading newline kept held) → IfSome held.kept (λ kept. length kept ≤ held.place) → (buffer.can.readable ≡ true → reading ≡ coder) → IsText buffer held at taken settings → IsText buffer new at taken (set_to settings coder newline)
+text_anew buffer held new at taken coder reading newline settings none anew behind same is =
+    let was = is.whole none in
+    let after : TextSettings = set_to settings coder newline in
+    let bytes : List ℕ = (flat_of buffer).bytes in
+    let new_is = anew_is held new reading newline at was.since was.kept (omega (arith, is.stands, was.reaches)) anew behind in
+    subst (λ (own : HeldView). IsText buffer own at taken after) (sym new_is) (record {
+      reads_by = λ can. record { encoding = ap (λ (own : Coder). own.encoding) (same can); handler = ap (λ (own : Coder). own.errors) (same can); newline = refl };
+      asks = is.asks;
+      buffered = is.buffered;
+      kept = is.kept;
+      owes = is.owes;
+      ahead = is.ahead;
+      stands = was.reaches;
+      far = is.far;
+      forth = omega arith;
+      few = omega (arith, none);
+      whole = λ zero. record { since = was.since; kept = refl; reaches = was.reaches };
+      told = λ told live reads.
+          let knows = is.told told live reads in
+          subst (λ (count : ℕ). KnowsTold after bytes buffer.place at count (held_by reading newline at was.since held.room)) (sym none)
+          (subst (λ (own : Coder). KnowsTold after bytes buffer.place at 0 (held_by own newline at was.since held.room)) (sym (same reads))
+          (knows_anew after bytes buffer.place at held.room was.since was.reaches (knows.whole none was.since was.kept) knows.within));
+    })
+
+-- Settings that are given.
+
+-- settings of which those that are read by stay
+unread : (settings : TextSettings) (changes : Changes) → changes_reading changes ≡ false → changed settings changes ≡ record settings { line_buffering = unwrap_or changes.line_buffering settings.line_buffering; write_through = unwrap_or changes.write_through settings.write_through }
+unread settings changes none = by_given changes.encoding changes.handler changes.newline none
+  where
+    by_given : (encoding : Option Encoding) (handler : Option Handler) (newline : Option Newlines) → is_some encoding || (is_some handler || is_some newline) ≡ false → changed settings (record changes { encoding = encoding; handler = handler; newline = newline }) ≡ record settings { line_buffering = unwrap_or changes.line_buffering settings.line_buffering; write_through = unwrap_or changes.write_through settings.write_through }
+    by_given None None None none = refl
+    by_given (Some encoding) handler newline none = absurd (cc)
+    by_given None (Some handler) newline none = absurd (cc)
+    by_given None None (Some newline) none = absurd (cc)
+
+abbrev pub written_as : TextView → (line_buffering write_through : Bool) → TextView
+written_as view line_buffering write_through = record view { settings = record view.settings { line_buffering = line_buffering; write_through = write_through } }
+
+-- none of those that are read by was given
+pub set_unread : (old mid new : TextView) (changes : Changes) (lines through : Bool) → changes_reading changes ≡ false → mid ≡ old → new ≡ written_as mid lines through → lines ≡ unwrap_or changes.line_buffering old.settings.line_buffering → through ≡ unwrap_or changes.write_through old.settings.write_through → IsSetTo (changed old.settings changes) old new
+set_unread old mid new changes lines through none same is lines_are through_is =
+    let whole : new ≡ written_as old lines through = is ∙ ap (λ (view : TextView). written_as view lines through) same in
+    record {
+      buffer = ap (λ (view : TextView). view.buffer) whole;
+      at = ap (λ (view : TextView). view.at) whole;
+      taken = ap (λ (view : TextView). view.taken) whole;
+      dirty = ap (λ (view : TextView). view.dirty) whole;
+      settings = ap (λ (view : TextView). view.settings) whole ∙ (rw (lines_are, through_is) refl ∙ sym (unread old.settings changes none));
+    }
+
+-- some of them were
+pub set_read : (old mid new : TextView) (changes : Changes) (coder : Coder) (newline : Newlines) (lines through : Bool) → IsSetTo (set_to old.settings coder newline) old mid → new ≡ written_as mid lines through → coder.encoding ≡ unwrap_or changes.encoding old.settings.encoding → coder.errors ≡ unwrap_or changes.handler old.settings.handler → newline ≡ unwrap_or changes.newline old.settings.newline → lines ≡ unwrap_or changes.line_buffering old.settings.line_buffering → through ≡ unwrap_or changes.write_through old.settings.write_through → IsSetTo (changed old.settings changes) old new
+set_read old mid new changes coder newline lines through sets is encoding handler rule lines_are through_is = record {
+  buffer = ap (λ (view : TextView). view.buffer) is ∙ sets.buffer;
+  at = ap (λ (view : TextView). view.at) is ∙ sets.at;
+  taken = ap (λ (view : TextView). view.taken) is ∙ sets.taken;
+  dirty = ap (λ (view : TextView). view.dirty) is ∙ sets.dirty;
+  settings = ap (λ (view : TextView). view.settings) is ∙ (ap (λ (settings : TextSettings). let own : TextSettings = record settings { line_buffering = lines; write_through = through } in own) sets.settings ∙ rw (encoding, handler, rule, lines_are, through_is) refl);
+}
