@@ -188,3 +188,9 @@ over_set old new changes sets pending current = rw (sets.buffer, sets.at, sets.t
 pub set_so : (old new : WrittenView) (changes : Changes) → old.life ≡ life.Live → changes_refusal (file_now old) changes ≡ None → IsSetTo (changed old.text.settings changes) old.text new.text → new.pending ≡ old.pending → new.life ≡ old.life → IsJoined (over_of old) → Answers (state_of old false) (Reconfigure changes) Done (state_of new false)
 set_so old new changes live accepted sets pending current joined =
     subst (λ (text : TextOver Buffer). let after : TextState = record { text = text; short = false } in Answers (state_of old false) (Reconfigure changes) Done after) (sym (over_set old new changes sets pending current)) (set_answers old changes live accepted joined)
+
+-- of a text as it is seen
+pub set_now : (now old new : WrittenView) (changes : Changes) → old ≡ now → now.life ≡ life.Live → changes_refusal (file_now now) changes ≡ None → IsSetTo (changed old.text.settings changes) old.text new.text → new.pending ≡ old.pending → new.life ≡ old.life → IsJoined (over_of now) → Answers (state_of now false) (Reconfigure changes) Done (state_of new false)
+set_now now old new changes same live accepted sets pending current joined =
+    set_so now new changes live accepted (subst (λ (view : WrittenView). IsSetTo (changed view.text.settings changes) view.text new.text) same sets)
+    (pending ∙ ap (λ (view : WrittenView). view.pending) same) (current ∙ ap (λ (view : WrittenView). view.life) same) joined
