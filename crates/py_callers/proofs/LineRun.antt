@@ -26,9 +26,7 @@ use Rattle.py_calls.specs.Calls.{said}
 use Rattle.py_mode.specs.declared.mode.FileMode.TheVariants as mode
 use Rattle.py_mode.specs.declared.mode.EncodeMode.TheVariants as encode
 use Rattle.py_mode.specs.declared.plan.OpenPlan.{OpenPlan}
-use Rattle.py_mode.specs.declared.open_args.OpenArgs.{OpenArgs}
-use Rattle.py_mode.specs.OpenArgs.{default_args}
-use Rattle.py_mode.specs.Plan.{plan_of}
+use Rattle.py_mode.specs.declared.plan.PlanKind.TheVariants as kind
 use Rattle.py_binary.specs.Binary.{AnswersBinary}
 use Rattle.py_stream.specs.Access.{can_of, is_able}
 use Rattle.py_stream.specs.declared.access.Access.TheVariants as access
@@ -98,21 +96,14 @@ answered_line : (raw : Raw) (stream : Stream) (reply : Reply) (mid session : Ses
 answered_line raw stream reply (TextSession text) session opens step is = absurd step
 answered_line raw stream reply (BinarySession after) session opens step is = subst (λ (view : SessionView). AnswersLine raw (said reply) (raw_of view)) (sym is) (stream_line raw stream reply after opens step)
 
-abbrev plan_read : OpenPlan
-plan_read = record { mode = record { file = mode.Read; encode = encode.Bytes; plus = false }; buffer_size = Some 8192; coder = None; settings = None }
+abbrev pub plan_read : OpenPlan
+plan_read = record { mode = record { file = mode.Read; encode = encode.Bytes; plus = false }; kind = kind.Buffered 8192 }
 
 session_line : (raw : Raw) (opened : SessionView) (session : SessionView) (reply : Reply) → OpensSession raw plan_read opened → IsRun opened (call.ReadLine None ∷ []) (reply ∷ []) session → AnswersLine raw (said reply) (raw_of session)
 session_line raw (TextSession text) session reply opens run = absurd opens
 session_line raw (BinarySession stream) session reply opens run = answered_line raw stream reply run.0 session opens run.1 run.2
 
--- a run of that one call, as it was planned
-run_line : (raw : Raw) (plan : OpenPlan) (session : SessionView) (reply : Reply) → plan_of (codes "rb") default_args ≡ Ok plan → RunsCalls raw plan (call.ReadLine None ∷ []) session (reply ∷ []) → AnswersLine raw (said reply) (raw_of session)
-run_line raw plan session reply planned runs =
-    let is : plan_read ≡ plan = cc in
-    let same : RunsCalls raw plan_read (call.ReadLine None ∷ []) session (reply ∷ []) = subst (λ (p : OpenPlan). RunsCalls raw p (call.ReadLine None ∷ []) session (reply ∷ [])) (sym is) runs in
-    session_line raw same.opened session reply same.opens same.run
-
--- What follows from the clauses that `run_session` ensures.
+-- What follows from the clauses that `run_planned` ensures.
 
 -- the one reply of a run is the last of it
 only : (first : Reply) (front : List Reply) (reply : Reply) → first ∷ [] ≡ front ++ (reply ∷ []) → first ∷ [] ≡ reply ∷ []
@@ -124,9 +115,7 @@ single raw plan session [] front reply runs e = absurd runs.run
 single raw plan session (first ∷ []) front reply runs e = subst (λ (replies : List Reply). RunsCalls raw plan (call.ReadLine None ∷ []) session replies) (only first front reply e) runs
 single raw plan session (first ∷ (second ∷ more)) front reply runs e = absurd runs.run.2
 
-pub outcome_line : (raw back : Raw) (args : OpenArgs) (session : SessionView) (replies front : List Reply) (reply : Reply) → args ≡ default_args → (plan : OpenPlan) × (plan_of (codes "rb") args ≡ Ok plan) × RunsCalls raw plan (call.ReadLine None ∷ []) session replies → replies ≡ front ++ (reply ∷ []) → back ≡ raw_of session → AnswersLine raw (said reply) back
-outcome_line raw back args session replies front reply is outcome last same =
-    let plan : OpenPlan = outcome.0 in
-    let planned : plan_of (codes "rb") default_args ≡ Ok plan = subst (λ (given : OpenArgs). plan_of (codes "rb") given ≡ Ok plan) is outcome.1 in
-    let runs : RunsCalls raw plan (call.ReadLine None ∷ []) session (reply ∷ []) = single raw plan session replies front reply outcome.2 last in
-    subst (λ (shown : Raw). AnswersLine raw (said reply) shown) (sym same) (run_line raw plan session reply planned runs)
+pub outcome_line : (raw back : Raw) (session : SessionView) (replies front : List Reply) (reply : Reply) → RunsCalls raw plan_read (call.ReadLine None ∷ []) session replies → replies ≡ front ++ (reply ∷ []) → back ≡ raw_of session → AnswersLine raw (said reply) back
+outcome_line raw back session replies front reply run last same =
+    let runs : RunsCalls raw plan_read (call.ReadLine None ∷ []) session (reply ∷ []) = single raw plan_read session replies front reply run last in
+    subst (λ (shown : Raw). AnswersLine raw (said reply) shown) (sym same) (session_line raw runs.opened session reply runs.opens runs.run)

@@ -2,7 +2,10 @@
 ghost use Rattle.py_stream.specs.Opening.{StandsAtStart};
 ghost use Rattle.py_callers.specs.FirstLine.{LineOutcome};
 
-use py_open::{Call, OpenArgs, OpenRefused, Reply, Run, a_run_answers_each_call, run_session};
+use py_open::{
+    Call, DEFAULT_BUFFER_SIZE, EncodeMode, FileMode, Mode, OpenPlan, OpenRefused, PlanKind, Reply, Run,
+    a_run_answers_each_call, run_planned,
+};
 use py_raw::RawStream;
 use py_stream::Detached;
 use std::alloc::Global;
@@ -16,7 +19,7 @@ pub struct FirstLine<R> {
     pub raw: R,
 }
 
-/// Reads the first line of what a raw stream has left, through a buffer of 8192 bytes. `run_session` says why an opening is
+/// Reads the first line of what a raw stream has left, through a buffer of 8192 bytes. `run_planned` says why an opening is
 /// refused.
 pub fn first_line<R: RawStream>(alloc: Global, raw: R) -> Result<FirstLine<R>, OpenRefused<R>>
     requires start { StandsAtStart (R.shows raw) }
@@ -24,7 +27,15 @@ pub fn first_line<R: RawStream>(alloc: Global, raw: R) -> Result<FirstLine<R>, O
 {
     a_run_answers_each_call();
     let calls = [Call::ReadLine(None)];
-    match run_session(alloc, raw, "rb", OpenArgs::default(), &calls) {
+    let plan = OpenPlan {
+        mode: Mode {
+            file: FileMode::Read,
+            encode: EncodeMode::Bytes,
+            plus: false,
+        },
+        kind: PlanKind::Buffered(DEFAULT_BUFFER_SIZE),
+    };
+    match run_planned(alloc, raw, plan, &calls) {
         Ok(run) => {
             let Run { session, replies } = run;
             let mut replies = replies;

@@ -10,6 +10,7 @@ use py_flat::Life;
 use py_open::{Call, Detached, OpenArgs, OpenRefused, Reply, Run, Session, run_session};
 use py_raw::{GREATEST_PLACE, RawFlags, RawStream};
 use py_raw_memory::MemRaw;
+use py_registry::{CodecsRegistry, NoHandler, NoSearch};
 use py_script::{Command, parse_words};
 use py_stream::NewRefused;
 use py_text::{Coder, Encoding, Handler, Newlines, TextSettings};
@@ -122,7 +123,11 @@ fn open_planned(alloc: Global, case: &SessionCase<'_>, raw: MemRaw) -> Result<Op
 fn open_by(alloc: Global, mode: &str, args: OpenArgs, raw: MemRaw) -> Opening
     requires { StandsAtStart (shown raw) }
 {
-    match run_session(alloc, raw, mode, args, &[]) {
+    let mut registry = match CodecsRegistry::<NoSearch, NoHandler>::new(alloc) {
+        Ok(registry) => registry,
+        Err(fault) => return Err(NewRefused { raw, fault }),
+    };
+    match run_session(alloc, raw, &mut registry, mode, args, &[]) {
         Ok(
             Run {
                 session,

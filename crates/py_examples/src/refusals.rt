@@ -4,6 +4,7 @@ use py_flat::IoFault;
 use py_open::{OpenArgs, run_session};
 use py_raw::{Opener, RawFlags};
 use py_raw_memory::{MemOpener, MemRaw};
+use py_registry::{CodecsRegistry, NoHandler, NoSearch};
 use std::alloc::Global;
 use std::io;
 use std::test::Fail;
@@ -45,7 +46,8 @@ fn buffer_of(alloc: Global, bytes: &[u8], size: usize) -> anyhow::Result<usize> 
 fn open_by(alloc: Global, mode: &str) -> Result<(), IoFault> {
     let flags = RawFlags::able(true, false, true);
     let raw = MemRaw::new(Vec::new(alloc), flags, Vec::new(alloc), Vec::new(alloc));
-    run_session(alloc, raw, mode, OpenArgs::default(), &[])?;
+    let mut registry = CodecsRegistry::<NoSearch, NoHandler>::new(alloc)?;
+    run_session(alloc, raw, &mut registry, mode, OpenArgs::default(), &[])?;
     Ok(())
 }
 

@@ -3,6 +3,7 @@ use py_example_streams::{reader_of, writer_to};
 use py_open::{OpenArgs, run_session};
 use py_raw::RawFlags;
 use py_raw_memory::MemRaw;
+use py_registry::{CodecsRegistry, NoHandler, NoSearch};
 use std::alloc::Global;
 use std::test::Fail;
 
@@ -16,7 +17,8 @@ fn run_shown(alloc: Global, mode: &str) -> Result<String, Fail> {
     let flags = RawFlags::able(true, true, true);
     let bytes = b"abc".to_vec(alloc)?;
     let raw = MemRaw::new(bytes, flags, Vec::new(alloc), Vec::new(alloc));
-    let run = run_session(alloc, raw, mode, OpenArgs::default(), &[])?;
+    let mut registry = CodecsRegistry::<NoSearch, NoHandler>::new(alloc)?;
+    let run = run_session(alloc, raw, &mut registry, mode, OpenArgs::default(), &[])?;
     Ok(format!(in alloc; "{run:?}")?)
 }
 

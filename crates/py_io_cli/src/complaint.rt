@@ -2,10 +2,11 @@
 //! who has to act on it.
 
 use crate::noting::Noting;
-use py_mode::plan_open;
+use py_mode::{OpenArgs, plan_open};
 use py_program::Status;
 use py_raw::Source;
 use py_raw_files::FileOpener;
+use py_registry::{CodecsRegistry, NoHandler, NoSearch};
 use py_script::{Command, parse_line, parse_words};
 use std::alloc::{AllocError, Global};
 use std::fs::Files;
@@ -66,11 +67,19 @@ fn words_complaint(alloc: Global, words: &[String]) -> Result<String, AllocError
     String::from_str(alloc, "a word is not UTF-8")
 }
 
+/// Whether the plan of the program refuses an opening.
+fn is_refused(alloc: Global, mode: &str, args: &OpenArgs) -> Result<bool, AllocError> {
+    match CodecsRegistry::<NoSearch, NoHandler>::new(alloc) {
+        Ok(mut registry) => Ok(plan_open(&mut registry, alloc, mode, args).is_err()),
+        Err(_) => Err(AllocError),
+    }
+}
+
 /// Why an opening was refused of which the system said nothing: the mode and the options refuse it, which opens nothing; or else the
 /// file that was opened failed.
 fn refused_complaint(alloc: Global, words: &[String], path: &str) -> Result<String, AllocError> {
     if let Some(Command::Run { mode, args, .. }) = parse_words(alloc, words)? {
-        if plan_open(mode, &args).is_err() {
+        if is_refused(alloc, mode, &args)? {
             return format!(in alloc;
                 "the mode {mode:?} or an option is refused for {path:?}, by the name that was printed: try --help"
             );

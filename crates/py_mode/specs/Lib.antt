@@ -1,3 +1,5 @@
 pub mod OpenArgs
+pub mod Names
 pub mod Mode
 pub mod Plan
+pub mod Planned

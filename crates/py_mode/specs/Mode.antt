@@ -1,5 +1,5 @@
 -- The mode of an opening: what its letters say, read from left to right (Python's documentation of `open`).
-use Rattle.std.specs.Prelude.{ℕ, Bool, true, false, nat_eq, List, [], ◌∷◌, None, Some, unwrap_or, Result, Ok, Err, if◌then◌else◌}
+use Rattle.std.specs.Prelude.{ℕ, Bool, true, false, not, ◌||◌, nat_eq, List, [], ◌∷◌, None, Some, unwrap_or, Result, Ok, Err, if◌then◌else◌}
 use Rattle.py_flat.specs.declared.mode_error.ParseModeError.{ParseModeError}
 use Rattle.py_flat.specs.declared.mode_error.ParseModeError.TheVariants.{InvalidMode, MultipleFile, MultipleEncode, NoFile}
 use Rattle.py_raw.specs.RawMode.{letter_r, letter_w, letter_x, letter_a, letter_b, plus_sign}
@@ -37,6 +37,13 @@ is_read Append = false
 abbrev pub is_append : FileMode → Bool
 is_append Append = true
 is_append other = false
+
+-- whether the file is read, and whether it is written
+abbrev pub reads : Mode → Bool
+reads mode = mode.plus || is_read mode.file
+
+abbrev pub writes : Mode → Bool
+writes mode = mode.plus || not (is_read mode.file)
 
 -- whether calls speak of characters
 abbrev pub is_text : EncodeMode → Bool

@@ -1,7 +1,8 @@
 //! What an opening asks for: its mode and arguments, and the plan that they make.
 //!
-//! `plan_open` decides before any raw stream is asked: it says which mode, through a buffer of which size, and of a text what it decodes
-//! and encodes by and its settings, or why the opening is refused. `Mode` is read from its text by `parse`.
+//! `plan_open` decides before any raw stream is asked: it says which mode, and whether a text, a stream of bytes through a buffer or the
+//! bare raw is opened, of a text what it decodes and encodes by, as a registry finds it by name, and its settings; or why the opening is
+//! refused. `Mode` is read from its text by `parse`.
 #![tactic(auto)]
 
 mod examples;
@@ -12,17 +13,18 @@ mod open_args;
 mod plan;
 
 pub use examples::{
-    a_mode_is_refused_before_any_argument, a_text_is_read_through_a_buffer,
-    a_text_is_written_through_a_buffer, an_argument_is_refused_before_what_is_not_opened,
+    a_mode_is_refused_before_any_argument, a_text_has_the_codec_and_the_handler_of_its_names,
+    a_text_is_read_through_a_buffer, a_text_is_written_through_a_buffer,
+    a_text_that_appends_is_not_read, an_argument_is_refused_before_what_is_not_opened,
     binary_modes_are_opened, bytes_are_read_and_written, modes_are_taken_apart,
-    some_modes_are_not_opened_so_far, the_first_letter_that_offends_decides,
+    the_first_letter_that_offends_decides,
 };
 pub use laws::{
     an_accepted_binary_mode_has_no_text_argument, an_accepted_plan_is_what_was_asked,
-    an_accepted_text_has_a_buffer_and_settings,
+    an_accepted_text_has_a_buffer_a_coder_and_settings,
 };
 pub use mode::{EncodeMode, FileMode, Mode};
-pub use open_args::OpenArgs;
-pub use plan::{DEFAULT_BUFFER_SIZE, OpenPlan, plan_open};
+pub use open_args::{OpenArgs, text_encoding};
+pub use plan::{DEFAULT_BUFFER_SIZE, OpenPlan, PlanKind, TextPlan, plan_open};
 pub use py_flat::{Chars, IoFault, ParseModeError};
-pub use py_text::{Coder, TextSettings};
+pub use py_text::{Coder, CodecsRegistry, SearchFunction, TextSettings};

@@ -1,7 +1,7 @@
 //! The mode of an opening, parsed.
 ghost use Rattle.std.specs.Prelude.{◌≡◌};
 ghost use Rattle.py_raw.specs.RawMode.{IsRawMode, raw_mode_text};
-ghost use Rattle.py_mode.specs.Mode.{mode_of, letter_of, is_read, is_append, is_text};
+ghost use Rattle.py_mode.specs.Mode.{mode_of, letter_of, is_read, is_append, is_text, reads, writes};
 
 use crate::letters::Letters;
 use py_flat::ParseModeError;
@@ -74,6 +74,20 @@ pub struct Mode {
 }
 
 impl Mode {
+    /// Whether the file is read.
+    pub fn reads(&self) -> bool
+        ensures { result ≡ reads self.now }
+    {
+        self.plus || self.file.is_read()
+    }
+
+    /// Whether the file is written.
+    pub fn writes(&self) -> bool
+        ensures { result ≡ writes self.now }
+    {
+        self.plus || !self.file.is_read()
+    }
+
     /// The mode by which the raw stream under a session of this mode is opened: the file letter, then `b`, then a `+`
     /// where there is one. It is one of the eight modes that an opener takes, `rb`, `rb+`, `wb`, `wb+`, `xb`, `xb+`, `ab`
     /// and `ab+`; a text is opened by its bytes as well.

@@ -15,16 +15,17 @@ use Rattle.py_calls.specs.declared.call.Call.TheVariants as call
 use Rattle.py_calls.specs.declared.reply.Reply.{Reply}
 use Rattle.py_calls.specs.declared.reply.Reply.TheVariants as reply
 use Rattle.py_calls.specs.Calls.{file_call, said}
-use Rattle.py_mode.specs.declared.mode.EncodeMode.{EncodeMode}
-use Rattle.py_mode.specs.declared.mode.EncodeMode.TheVariants.{Text, Bytes}
+use Rattle.py_stream.specs.declared.access.Access.{Access}
 use Rattle.py_mode.specs.declared.plan.OpenPlan.{OpenPlan}
+use Rattle.py_mode.specs.declared.plan.PlanKind.{PlanKind}
+use Rattle.py_mode.specs.declared.plan.PlanKind.TheVariants as kind
 use Rattle.py_plain_text.specs.TextCalls as text
 use Rattle.py_read_text.specs.TextState.{TextState}
 use Rattle.py_read_text.specs.Answers as over
 use Rattle.py_text_session.specs.Session.{IsOpen}
 use Rattle.py_binary.specs.Binary.{has_reply_room, AnswersBy}
 use Rattle.py_open.specs.Session.{SessionView, TextSession, BinarySession, raw_of, life_of, owed_of, IsInStep, IsOpenBelow, HasOpenRaw, IsKept, IsShut, ClosesRaw, Answers}
-use Rattle.py_open.specs.Opening.{OpensBy, OpensSession}
+use Rattle.py_open.specs.Opening.{access_of, OpensBy, OpensSession}
 use Rattle.py_open.specs.Run.{IsRun}
 use Rattle.py_open.specs.Laws.{PassesAll}
 use Rattle.py_open.proofs.Steps.{left_raw, left_life, step_in_step}
@@ -125,14 +126,16 @@ step_closes before call reply after step is = tt
 
 -- Openings, and runs.
 
-opened_open : (encode : EncodeMode) (raw : Raw) (plan : OpenPlan) (session : SessionView) → OpensBy encode raw plan session → IsOpenBelow session
-opened_open Text raw plan (TextSession text) opens = record { raw = opens.untouched.stays ∙ opens.was_open; buffer = ap is_closed opens.life_is }
-opened_open Bytes raw plan (BinarySession stream) opens = opens.untouched.stays ∙ opens.was_open
-opened_open Text raw plan (BinarySession stream) opens = absurd opens
-opened_open Bytes raw plan (TextSession text) opens = absurd opens
+opened_open : (planned : PlanKind) (opened : Access) (raw : Raw) (session : SessionView) → OpensBy planned opened raw session → IsOpenBelow session
+opened_open (kind.Text planned) opened raw (TextSession text) opens = record { raw = opens.untouched.stays ∙ opens.was_open; buffer = ap is_closed opens.life_is }
+opened_open (kind.Buffered size) opened raw (BinarySession stream) opens = opens.untouched.stays ∙ opens.was_open
+opened_open kind.Bare opened raw (BinarySession stream) opens = opens.untouched.stays ∙ opens.was_open
+opened_open (kind.Text planned) opened raw (BinarySession stream) opens = absurd opens
+opened_open (kind.Buffered size) opened raw (TextSession text) opens = absurd opens
+opened_open kind.Bare opened raw (TextSession text) opens = absurd opens
 
 pub opened_kept : (raw : Raw) (plan : OpenPlan) (session : SessionView) → OpensSession raw plan session → IsKept session
-opened_kept raw plan session opens = record { in_step = opened_in_step raw plan session opens; has_open = λ lives. opened_open plan.mode.encode raw plan session opens }
+opened_kept raw plan session opens = record { in_step = opened_in_step raw plan session opens; has_open = λ lives. opened_open plan.kind (access_of plan.mode) raw session opens }
 
 pub run_kept : (before : SessionView) (calls : List Call) (replies : List Reply) (after : SessionView) → IsRun before calls replies after → IsKept before → IsKept after
 run_kept before [] [] after run is = subst IsKept (sym run) is

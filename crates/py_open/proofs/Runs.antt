@@ -19,11 +19,12 @@ use Rattle.py_stream.specs.Answers.{ClosedWith}
 use Rattle.py_calls.specs.declared.call.Call.{Call}
 use Rattle.py_calls.specs.declared.reply.Reply.{Reply}
 use Rattle.py_calls.specs.Calls.{text_call, said}
-use Rattle.py_mode.specs.declared.mode.EncodeMode.{EncodeMode}
-use Rattle.py_mode.specs.declared.mode.EncodeMode.TheVariants.{Text, Bytes}
+use Rattle.py_stream.specs.declared.access.Access.{Access}
 use Rattle.py_mode.specs.declared.plan.OpenPlan.{OpenPlan}
+use Rattle.py_mode.specs.declared.plan.PlanKind.{PlanKind}
+use Rattle.py_mode.specs.declared.plan.PlanKind.TheVariants as kind
 use Rattle.py_open.specs.Session.{SessionFile, OfText, OfBinary, SessionView, TextSession, BinarySession, Settles, file_seen, raw_of, life_of, short_of, IsInStep}
-use Rattle.py_open.specs.Opening.{OpensBy, OpensSession}
+use Rattle.py_open.specs.Opening.{access_of, OpensBy, OpensSession}
 use Rattle.py_open.specs.Run.{Entry, IsRun, IsHistory, IsCalm, IsSmooth, NoneLacksMemory, AllSettle, all_said, calls_of, replies_of}
 use Rattle.py_open.specs.Laws.{session_exact, exact_replies, exact_after, IsExact, HasHistory, RunsInTwo, RunsComplete, KeepsSettings, OnlyReads, SayAll, closed_reply, StaysClosed}
 use Rattle.py_open.proofs.Steps.{step_keeps, step_told, step_settles, smooth_step, step_completes, step_in_step, step_reads, step_spares, step_writes_none, step_shuts}
@@ -97,14 +98,16 @@ run_in_step before (call ∷ calls) (reply ∷ replies) after run is = run_in_st
 run_in_step before [] (reply ∷ replies) after run is = absurd run
 run_in_step before (call ∷ calls) [] after run is = absurd run
 
-opened_by : (encode : EncodeMode) (raw : Raw) (plan : OpenPlan) (session : SessionView) → OpensBy encode raw plan session → IsInStep session
-opened_by Text raw plan (TextSession view) opens = λ _. record { none = opens.none; own = opens.own; life_is = opens.life_is ∙ sym (ap (λ (file : TextFile). file.life) opens.file) }
-opened_by Bytes raw plan (BinarySession stream) opens = λ _. opens.owed
-opened_by Text raw plan (BinarySession stream) opens = absurd opens
-opened_by Bytes raw plan (TextSession text) opens = absurd opens
+opened_by : (planned : PlanKind) (opened : Access) (raw : Raw) (session : SessionView) → OpensBy planned opened raw session → IsInStep session
+opened_by (kind.Text text) opened raw (TextSession view) opens = λ _. record { none = opens.none; own = opens.own; life_is = opens.life_is ∙ sym (ap (λ (file : TextFile). file.life) opens.file) }
+opened_by (kind.Buffered size) opened raw (BinarySession stream) opens = λ _. opens.owed
+opened_by kind.Bare opened raw (BinarySession stream) opens = λ _. opens.owed
+opened_by (kind.Text text) opened raw (BinarySession stream) opens = absurd opens
+opened_by (kind.Buffered size) opened raw (TextSession text) opens = absurd opens
+opened_by kind.Bare opened raw (TextSession text) opens = absurd opens
 
 pub opened_in_step : (raw : Raw) (plan : OpenPlan) (session : SessionView) → OpensSession raw plan session → IsInStep session
-opened_in_step raw plan session opens = opened_by plan.mode.encode raw plan session opens
+opened_in_step raw plan session opens = opened_by plan.kind (access_of plan.mode) raw session opens
 
 -- Runs in which no count rose.
 

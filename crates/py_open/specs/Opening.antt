@@ -1,5 +1,5 @@
 -- Opening a session over a raw stream, and handing the raw back.
-use Rattle.std.specs.Prelude.{ℕ, Bool, true, false, Option, unwrap_or, Result, Ok, Err}
+use Rattle.std.specs.Prelude.{ℕ, Bool, true, false, Option, Some, None, Result, Ok, Err}
 use Rattle.py_flat.specs.declared.fault.IoFault.{IoFault}
 use Rattle.py_raw.specs.RawStream.{Raw}
 use Rattle.py_stream.specs.declared.new_refused.NewRefused.{NewRefused}
@@ -10,11 +10,11 @@ use Rattle.py_stream.specs.Access.{can_of, is_able}
 use Rattle.py_mode.specs.declared.mode.FileMode.{FileMode}
 use Rattle.py_mode.specs.declared.mode.FileMode.TheVariants.{Read, Append}
 use Rattle.py_mode.specs.declared.mode.Mode.{Mode}
-use Rattle.py_mode.specs.declared.mode.EncodeMode.{EncodeMode}
-use Rattle.py_mode.specs.declared.mode.EncodeMode.TheVariants.{Text, Bytes}
 use Rattle.py_mode.specs.declared.plan.OpenPlan.{OpenPlan}
-use Rattle.py_mode.specs.Plan.{planned_coder}
-use Rattle.py_text.specs.Settings.{default_settings}
+use Rattle.py_mode.specs.declared.plan.PlanKind.{PlanKind}
+use Rattle.py_mode.specs.declared.plan.PlanKind.TheVariants as kind
+use Rattle.py_mode.specs.declared.plan.TextPlan.{TextPlan}
+use Rattle.py_mode.specs.Plan.{buffer_of}
 use Rattle.py_plain_text.specs.TextFile.{TextSettings}
 use Rattle.py_read_text.specs.TextState.{settings_of}
 use Rattle.py_text_session.specs.Opening.{OpensText}
@@ -33,23 +33,28 @@ access_by file false = access.Write
 abbrev pub access_of : Mode → Access
 access_of mode = access_by mode.file mode.plus
 
--- the settings that a plan opens a text with
-abbrev pub text_settings : OpenPlan → TextSettings
-text_settings plan = settings_of (unwrap_or plan.coder planned_coder) (unwrap_or plan.settings default_settings)
+-- the settings that a text is opened with
+abbrev pub text_settings : TextPlan → TextSettings
+text_settings text = settings_of text.coder text.settings
 
--- an open session by the plan's kind: a text; or a stream of bytes, with a buffer or without. Either begins where the raw
+-- an open session by what is planned: a text; or a stream of bytes, with a buffer or without. Either begins where the raw
 -- stands, one that appends at the end, and at 0 where the raw can't seek
-abbrev pub OpensBy : EncodeMode → Raw → OpenPlan → SessionView → Type 0
-OpensBy Text raw plan (TextSession text) = OpensText raw (access_of plan.mode) (unwrap_or plan.buffer_size 1) (text_settings plan) text
-OpensBy Bytes raw plan (BinarySession stream) = Opens (is_able (access_of plan.mode) plan.buffer_size) (can_of (access_of plan.mode)) raw plan.buffer_size stream
-OpensBy encode raw plan session = ⊥
+abbrev pub OpensBy : PlanKind → Access → Raw → SessionView → Type 0
+OpensBy (kind.Text planned) opened raw (TextSession text) = OpensText raw opened planned.buffer_size (text_settings planned) text
+OpensBy (kind.Buffered size) opened raw (BinarySession stream) = Opens (is_able opened (Some size)) (can_of opened) raw (Some size) stream
+OpensBy kind.Bare opened raw (BinarySession stream) = Opens (is_able opened None) (can_of opened) raw None stream
+OpensBy planned opened raw session = ⊥
 
 abbrev pub OpensSession : Raw → OpenPlan → SessionView → Type 0
-OpensSession raw plan session = OpensBy plan.mode.encode raw plan session
+OpensSession raw plan session = OpensBy plan.kind (access_of plan.mode) raw session
+
+-- whether a raw is able to do what it is opened for by a plan
+abbrev pub suits_plan : OpenPlan → Raw → Bool
+suits_plan plan raw = is_able (access_of plan.mode) (buffer_of plan.kind) raw
 
 -- why a raw isn't opened by a plan
 abbrev pub RefusesSession : Raw → OpenPlan → IoFault → Raw → Type 0
-RefusesSession raw plan why back = RefusesRaw (is_able (access_of plan.mode) plan.buffer_size) (can_of (access_of plan.mode) raw.seekable).appending raw plan.buffer_size why back
+RefusesSession raw plan why back = RefusesRaw (suits_plan plan) (can_of (access_of plan.mode) raw.seekable).appending raw (buffer_of plan.kind) why back
 
 abbrev pub SessionOutcome : {R : Type 0} → (R → Raw) → R → OpenPlan → Result SessionView (NewRefused R) → Type 0
 SessionOutcome shows raw plan (Ok session) = OpensSession (shows raw) plan session

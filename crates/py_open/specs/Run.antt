@@ -1,5 +1,5 @@
 -- Runs: what a list of calls may be answered, one call after another, and which opening they begin from.
-use Rattle.std.specs.Prelude.{◌≡◌, ◌≢◌, ℕ, Bool, false, List, [], ◌∷◌, Result, Ok, Err}
+use Rattle.std.specs.Prelude.{◌≡◌, ◌≢◌, ℕ, ◌⊎◌, Bool, false, List, [], ◌∷◌, Option, Result, Ok, Err}
 use Rattle.py_flat.specs.declared.fault.IoFault.{IoFault}
 use Rattle.py_flat.specs.declared.fault.IoFault.TheVariants as fault
 use Rattle.py_flat.specs.Calls.{FileReply, Refused}
@@ -11,7 +11,9 @@ use Rattle.py_calls.specs.declared.reply.Reply.{Reply}
 use Rattle.py_calls.specs.Calls.{said}
 use Rattle.py_mode.specs.declared.plan.OpenPlan.{OpenPlan}
 use Rattle.py_mode.specs.declared.open_args.OpenArgs.{OpenArgs}
-use Rattle.py_mode.specs.Plan.{plan_of}
+use Rattle.py_mode.specs.Plan.{RefusesPlan, Accepts}
+use Rattle.py_registry.specs.declared.codec.PyCodec.{PyCodec}
+use Rattle.py_registry.specs.Machine.{Machine}
 use Rattle.py_open.specs.declared.run.Run.{Run}
 use Rattle.py_open.specs.declared.open_refused.OpenRefused.{OpenRefused}
 use Rattle.py_open.specs.Session.{SessionFile, SessionView, SessionStep, Settles, short_of, Answers}
@@ -86,22 +88,30 @@ pub record IsSmooth (before after : Raw) : Type 0 where
 abbrev pub RefusesOpening : Raw → OpenPlan → IoFault → Raw → Type 0
 RefusesOpening raw plan refused back = RefusesSession raw plan refused back
 
--- why an opening is refused: by its plan, with the raw as it was; or as it says
-abbrev pub RefusesPlanned : Raw → Result OpenPlan IoFault → IoFault → Raw → Type 0
-RefusesPlanned raw (Err planned) refused back = (refused ≡ planned) × (back ≡ raw)
-RefusesPlanned raw (Ok plan) refused back = RefusesOpening raw plan refused back
-
 -- the session opens over the raw, and the replies are a run from there to the session
 pub record RunsCalls (raw : Raw) (plan : OpenPlan) (calls : List Call) (session : SessionView) (replies : List Reply) : Type 0 where
   pub opened : SessionView
   pub opens : OpensSession raw plan opened
   pub run : IsRun opened calls replies session
 
+-- a planned opening: a run; or a refusal, with the raw
 abbrev pub OpenedOutcome : {R : Type 0} → (R → Raw) → R → OpenPlan → List Call → Result (Run R) (OpenRefused R) → Type 0
 OpenedOutcome shows raw plan calls (Ok run) = RunsCalls (shows raw) plan calls run.session run.replies.items
 OpenedOutcome shows raw plan calls (Err refused) = RefusesOpening (shows raw) plan refused.fault (shows refused.raw)
 
--- a run comes only of a plan that is accepted
-abbrev pub RunOutcome : {R : Type 0} → (R → Raw) → R → List ℕ → OpenArgs → List Call → Result (Run R) (OpenRefused R) → Type 0
-RunOutcome shows raw mode args calls (Ok run) = (plan : OpenPlan) × (plan_of mode args ≡ Ok plan) × RunsCalls (shows raw) plan calls run.session run.replies.items
-RunOutcome shows raw mode args calls (Err refused) = RefusesPlanned (shows raw) (plan_of mode args) refused.fault (shows refused.raw)
+-- an opening is refused by its plan, with the raw and the registry as they were
+pub record RefusedByPlan {S H : Type 0} (finds : S → List ℕ → Option (PyCodec S)) (before : Machine S H) (raw : Raw) (mode : List ℕ) (args : OpenArgs) (refused : IoFault) (back : Raw) (new : Machine S H) : Type 0 where
+  pub plan : RefusesPlan finds before mode args refused
+  pub raw_same : back ≡ raw
+  pub registry : new ≡ before
+
+-- an opening by a mode and arguments, as far as the plan accepts it: what the planned opening comes to
+pub record OpensAsPlanned {S H R : Type 0} (finds : S → List ℕ → Option (PyCodec S)) (before : Machine S H) (shows : R → Raw) (raw : R) (mode : List ℕ) (args : OpenArgs) (calls : List Call) (result : Result (Run R) (OpenRefused R)) (new : Machine S H) : Type 0 where
+  pub plan : OpenPlan
+  pub accepts : Accepts finds before mode args plan new
+  pub outcome : OpenedOutcome shows raw plan calls result
+
+-- a run comes only of a plan that is accepted; a refusal is the plan's, or the planned opening's
+abbrev pub RunOutcome : {S H R : Type 0} → (finds : S → List ℕ → Option (PyCodec S)) → Machine S H → (R → Raw) → R → List ℕ → OpenArgs → List Call → Result (Run R) (OpenRefused R) → Machine S H → Type 0
+RunOutcome finds before shows raw mode args calls (Ok run) new = OpensAsPlanned finds before shows raw mode args calls (Ok run) new
+RunOutcome finds before shows raw mode args calls (Err refused) new = RefusedByPlan finds before (shows raw) mode args refused.fault (shows refused.raw) new ⊎ OpensAsPlanned finds before shows raw mode args calls (Err refused) new

@@ -22,7 +22,11 @@ pub use laws::{
 pub use open_refused::OpenRefused;
 pub use py_calls::{Call, Reply};
 pub use py_flat::ParseModeError;
-pub use py_mode::{DEFAULT_BUFFER_SIZE, EncodeMode, FileMode, Mode, OpenArgs, OpenPlan, plan_open};
+pub use py_mode::{
+    DEFAULT_BUFFER_SIZE, EncodeMode, FileMode, Mode, OpenArgs, OpenPlan, PlanKind, TextPlan, plan_open,
+    text_encoding,
+};
 pub use py_stream::{Detached, Whence};
-pub use run::{Run, run_session};
+pub use py_registry::{CodecsRegistry, SearchFunction};
+pub use run::{Run, run_planned, run_session};
 pub use session::Session;

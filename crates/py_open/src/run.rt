@@ -1,12 +1,13 @@
 //! Runs: a session that is opened, and a list of calls that are made on it in order.
 ghost use Rattle.py_stream.specs.Opening.{StandsAtStart};
-ghost use Rattle.py_open.specs.Kinds.{IsPlanned};
+ghost use Rattle.py_mode.specs.Plan.{IsPlanned};
 ghost use Rattle.py_open.specs.Run.{OpenedOutcome, RunOutcome};
 
 use crate::session::raw_refusal;
 use crate::{Call, OpenArgs, OpenPlan, OpenRefused, Reply, Session, plan_open};
 use py_flat::IoFault;
 use py_raw::RawStream;
+use py_registry::{CodecsRegistry, SearchFunction};
 use py_stream::NewRefused;
 use std::alloc::Global;
 
@@ -20,34 +21,39 @@ pub struct Run<R: RawStream> {
 }
 
 /// Opens a session over a raw by a mode and arguments, and makes calls in order: through a buffer of the size that the
-/// plan gives, or without one, and of a text with the settings of the plan.
+/// plan gives, or without one, and of a text with the settings of the plan, and the codec and the handler that the registry has under its
+/// names.
 ///
 /// The replies are a run of the model from the opening's flat file to the session's own: for every raw, told or not,
 /// each has its cause; where the raw tells, each is the model's, whatever pieces the raw moves and whatever the sizes of
 /// buffer and chunks are.
 ///
-/// Refused, the raw is handed back with nothing read or written: by the plan (`plan_open`), then `Closed`, `Unsupported` where
-/// it can't do what the mode needs (a mode with a plus moves it, through a buffer), `NoMemory`, and `RawFault` where it fails to say where it stands or ends, or to move there.
-/// Space for the replies is taken once the raw is known to be open and able, before it is asked for anything: where there is
-/// none it is `NoMemory` too, with the raw as it was. But for `RawFault` a raw that tells still stands where it stood.
-pub fn run_session<R: RawStream>(
+/// Refused, the raw is handed back with nothing read or written: by the plan (`plan_open`), which leaves the registry as it was; then as
+/// `run_planned` says, with the registry as the plan left it.
+pub fn run_session<R: RawStream, S: SearchFunction, H: Copy>(
     alloc: Global,
     raw: R,
+    registry: &mut CodecsRegistry<S, H>,
     mode: &str,
     args: OpenArgs,
     calls: &[Call],
 ) -> Result<Run<R>, OpenRefused<R>>
     requires { StandsAtStart (R.shows raw) }
-    ensures { RunOutcome R.shows raw mode.now args calls.now result }
+    ensures { RunOutcome S.finds registry.old R.shows raw mode.now args calls.now result registry.new }
 {
-    match plan_open(mode, &args) {
-        Ok(plan) => run_opened(alloc, raw, plan, calls),
+    match plan_open(registry, alloc, mode, &args) {
+        Ok(plan) => run_planned(alloc, raw, plan, calls),
         Err(fault) => Err(OpenRefused { raw, fault }),
     }
 }
 
-/// Opens a session by a plan, and makes calls in order.
-pub(crate) fn run_opened<R: RawStream>(
+/// Opens a session over a raw by a plan that `plan_open` accepted, and makes calls in order; `run_session` says what the replies are.
+///
+/// Refused, the raw is handed back with nothing read or written: `Closed`, then `Unsupported` where it can't do what the mode needs (a
+/// mode with a plus moves it, through a buffer), `NoMemory`, and `RawFault` where it fails to say where it stands or ends, or to move there.
+/// Space for the replies is taken once the raw is known to be open and able, before it is asked for anything: where there is
+/// none it is `NoMemory` too, with the raw as it was. But for `RawFault` a raw that tells still stands where it stood.
+pub fn run_planned<R: RawStream>(
     alloc: Global,
     raw: R,
     plan: OpenPlan,

@@ -1,19 +1,17 @@
 //! Sessions: what a plan opens over a raw stream, and on which calls are made.
 ghost use Rattle.std.specs.Prelude.{◌≡◌};
 ghost use Rattle.py_stream.specs.Opening.{StandsAtStart, first_refusal};
-ghost use Rattle.py_stream.specs.Access.{is_able};
 ghost use Rattle.py_open.specs.Session.{Answers, ClosesRaw, life_of, short_of, raw_of, owed_of};
-ghost use Rattle.py_open.specs.Kinds.{seen, IsSession, IsPlanned};
-ghost use Rattle.py_open.specs.Opening.{SessionOutcome, access_of, place_handed};
+ghost use Rattle.py_mode.specs.Plan.{IsPlanned, buffer_of};
+ghost use Rattle.py_open.specs.Kinds.{seen, IsSession};
+ghost use Rattle.py_open.specs.Opening.{SessionOutcome, access_of, suits_plan, place_handed};
 
 use crate::text_calls::answer_text;
-use crate::{Call, EncodeMode, FileMode, Mode, OpenPlan, Reply};
+use crate::{Call, FileMode, Mode, OpenPlan, PlanKind, Reply, TextPlan};
 use py_binary::{Access, BinarySession};
 use py_flat::{IoFault, Life};
-use py_plain::{Encoding, Handler};
 use py_raw::RawStream;
 use py_stream::{Detached, NewRefused, refused_at_first};
-use py_text::Coder;
 use py_text_session::TextSession;
 use std::alloc::Global;
 use std::marker::Model;
@@ -62,14 +60,13 @@ impl<R: RawStream> Session<R> {
         ensures { SessionOutcome R.shows raw plan result }
     {
         let access = access_of(plan.mode);
-        match plan.mode.encode {
-            EncodeMode::Text => {
-                let buffer_size = plan.buffer_size.unwrap_or(1);
-                let coder = plan.coder.unwrap_or(Coder {
-                    encoding: Encoding::Utf8,
-                    errors: Handler::Strict,
-                });
-                let settings = plan.settings.unwrap_or_default();
+        match plan.kind {
+            PlanKind::Text(text) => {
+                let TextPlan {
+                    buffer_size,
+                    coder,
+                    settings,
+                } = text;
                 match TextSession::new(alloc, raw, access, buffer_size, coder, settings) {
                     Ok(text) => Ok(Session {
                         kind: Kind::Text(text),
@@ -77,8 +74,8 @@ impl<R: RawStream> Session<R> {
                     Err(refused) => Err(refused),
                 }
             }
-            EncodeMode::Bytes => {
-                match BinarySession::new(alloc, raw, access, plan.buffer_size) {
+            PlanKind::Buffered(_) | PlanKind::Bare => {
+                match BinarySession::new(alloc, raw, access, plan.kind.buffer_size()) {
                     Ok(session) => Ok(Session {
                         kind: Kind::Binary(session),
                     }),
@@ -112,10 +109,12 @@ impl<R: RawStream> Session<R> {
     ///   `Close` (which may be made again), `Detached` after a `Detach`; then `Unsupported` to a call that the session lacks,
     ///   `BadWhence`, `NegativeSeek` and `TooFar`: no raw is called, but for a `Seek` from the end, and all stays as it was.
     ///   `ChunkSize`, `Encoding` and `Errors` are `Unsupported` in every life of a stream of bytes.
-    /// - `BadArgument` for a chunk size of 0, `SeekFirst` where a text was read since it was opened and is written, which can't be so far,
-    ///   `TooFar` where a write would end past the greatest place: with all as it was.
-    /// - `UnicodeDecodeError`, with byte places from the start of the stream, where a range that is no UTF-8 stands before the end of a
-    ///   text's answer: place and life stay, and a shorter read gives the characters before it.
+    /// - `BadArgument` for a chunk size of 0, `SeekFirst` where a text is written from which characters were read since it was opened, but
+    ///   for those of a `Read` of all, which reads to the end and so makes it writable again, `TooFar` where a write would end past the
+    ///   greatest place: with all as it was.
+    /// - `UnicodeDecodeError`, with byte places from the start of the stream, where a range that the text's handler refuses stands before the
+    ///   end of its answer: place and life stay, and a shorter read gives the characters before it. `UnicodeEncodeError`, with places in
+    ///   characters, where a `WriteText` has a character that its encoding hasn't and its handler refuses: nothing is written.
     /// - `WouldBlock` where the raw would have blocked and the rest of a `Write` had no room in the buffer, or some of `WriteLines` wasn't
     ///   taken: the first `taken` bytes were; of a `WriteText` all its bytes, which later calls pass on. Of a `Seek`, `Truncate`, `Flush`, `Close` or `Detach` none were, and it may be made again.
     /// - `RawFault` where the raw failed: the session is failed from then on; after `Close` it is closed.
@@ -202,8 +201,9 @@ fn access_of(mode: Mode) -> Access
 /// Why a plan's opening refuses a raw before it is asked for anything: `Closed` where it is closed, then `Unsupported` where it
 /// can't do what the mode needs, then `BadArgument` for a buffer of 0 bytes. `None` where nothing refuses it.
 pub(crate) fn raw_refusal<R: RawStream>(raw: &R, plan: OpenPlan) -> Option<IoFault>
-    ensures { result ≡ first_refusal (is_able (access_of plan.mode) plan.buffer_size (R.shows raw.now)) (R.shows raw.now) plan.buffer_size }
+    ensures { result ≡ first_refusal (suits_plan plan (R.shows raw.now)) (R.shows raw.now) (buffer_of plan.kind) }
 {
-    let able = access_of(plan.mode).suits(plan.buffer_size, raw);
-    refused_at_first(raw, able, plan.buffer_size)
+    let buffer_size = plan.kind.buffer_size();
+    let able = access_of(plan.mode).suits(buffer_size, raw);
+    refused_at_first(raw, able, buffer_size)
 }

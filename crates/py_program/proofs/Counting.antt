@@ -6,7 +6,7 @@ use Rattle.py_raw.specs.Opener.{OpenerView}
 use Rattle.py_calls.specs.declared.call.Call.{Call}
 use Rattle.py_mode.specs.declared.open_args.OpenArgs.{OpenArgs}
 use Rattle.py_mode.specs.declared.plan.OpenPlan.{OpenPlan}
-use Rattle.py_mode.specs.Plan.{plan_of}
+use Rattle.py_mode.specs.Plan.{built_in_plan}
 use Rattle.py_script.specs.CommandWords.{Command, Run, Help, Version, command_of}
 use Rattle.py_program.specs.declared.status.Status.{Status}
 use Rattle.py_program.specs.declared.status.Status.TheVariants as status
@@ -129,7 +129,7 @@ calls_one path asked status.Refused before after is did = one_opened path asked 
 calls_one path asked status.SinkFailed before after is did = one_opened path asked status.SinkFailed before after did
 calls_one path asked ended before after is did = absurd is
 
-planned_one : (path mode : List ℕ) (args : OpenArgs) (plan : OpenPlan) (calls : List Call) (ended : Status) (before after : Outside) → IsOpening ended → plan_of mode args ≡ Ok plan → PlannedOutcome path mode args calls ended before after → OpensOne before.opener after.opener
+planned_one : (path mode : List ℕ) (args : OpenArgs) (plan : OpenPlan) (calls : List Call) (ended : Status) (before after : Outside) → IsOpening ended → built_in_plan mode args ≡ Ok plan → PlannedOutcome path mode args calls ended before after → OpensOne before.opener after.opener
 planned_one path mode args plan calls ended before after is accepted (inl refuses) = let both : Ok plan ≡ Err refuses.refused = sym accepted ∙ refuses.planned in absurd (cc)
 planned_one path mode args plan calls ended before after is accepted (inr follows) = calls_one path (asked_by follows.plan calls) ended before after is follows.does
 

@@ -10,14 +10,14 @@ use Rattle.py_calls.specs.declared.call.Call.{Call}
 use Rattle.py_stream.specs.declared.access.Access.TheVariants as access
 use Rattle.py_mode.specs.declared.open_args.OpenArgs.{OpenArgs}
 use Rattle.py_mode.specs.declared.plan.OpenPlan.{OpenPlan}
-use Rattle.py_mode.specs.Plan.{plan_of}
+use Rattle.py_mode.specs.Plan.{built_in_plan}
 use Rattle.py_open.specs.Opening.{access_of}
 use Rattle.py_script.specs.CommandWords.{Command, Run, Help, Version, command_of}
 use Rattle.py_program.specs.declared.status.Status.{Status}
 use Rattle.py_program.specs.declared.status.Status.TheVariants as status
 use Rattle.py_program.specs.Status.{code_of}
-use Rattle.py_program.specs.Outcome.{Outside, Asked, raw_mode, asked_by, MovesRaw, RefusesOpened, OpensPath, OpenerFails, LacksMemory, CallsOutcome, PlannedOutcome, RunsScript, Outcome, Ends}
-use Rattle.py_program.specs.Meaning.{IsRefusedPlan, AsksToRead, MayNotMove, LeavesPaths, KeepsOthers, IsAcceptedAt}
+use Rattle.py_program.specs.Outcome.{Outside, Asked, raw_mode, asked_by, MovesRaw, RefusesOpened, OpensPath, OpenerFails, LacksMemory, CallsOutcome, PlannedOutcome, own_text, PrintsText, RunsScript, Outcome, Ends}
+use Rattle.py_program.specs.Meaning.{IsRefusedPlan, AsksToRead, MayNotMove, LeavesPaths, KeepsOthers, IsAcceptedAt, TellsWellFormed}
 use Rattle.py_program.proofs.Planned.{one_plan}
 use Rattle.py_program.proofs.Keeping.{path_spares, path_keeps, path_left}
 
@@ -50,7 +50,7 @@ calls_keep path asked status.SourceFailed before after reads did tells = absurd 
 
 -- the plan of a mode and arguments, if there is one, reads
 abbrev pub PlansToRead : List ℕ → OpenArgs → Type 0
-PlansToRead mode args = (plan : OpenPlan) → plan_of mode args ≡ Ok plan → access_of plan.mode ≡ access.Read
+PlansToRead mode args = (plan : OpenPlan) → built_in_plan mode args ≡ Ok plan → access_of plan.mode ≡ access.Read
 
 planned_keeps : (path mode : List ℕ) (args : OpenArgs) (calls : List Call) (ended : Status) (before after : Outside) → PlansToRead mode args → PlannedOutcome path mode args calls ended before after → IsTrue before.opener.tells → HoldsTheSame before.opener after.opener
 planned_keeps path mode args calls ended before after reads (inl refused) tells = opener_same before.opener after.opener refused.opener
@@ -87,7 +87,7 @@ refused_reads (Some Version) refused = absurd refused
 refused_reads None refused = absurd refused
 
 asked_reads : (command : Option Command) → AsksToRead command → WordsToRead command
-asked_reads (Some (Run path mode args)) asked = λ plan accepted. ap (λ (by : OpenPlan). access_of by.mode) (one_plan (plan_of mode args) plan asked.0 accepted asked.1) ∙ asked.2
+asked_reads (Some (Run path mode args)) asked = λ plan accepted. ap (λ (by : OpenPlan). access_of by.mode) (one_plan (built_in_plan mode args) plan asked.0 accepted asked.1) ∙ asked.2
 asked_reads (Some Help) asked = absurd asked
 asked_reads (Some Version) asked = absurd asked
 asked_reads None asked = absurd asked
@@ -177,15 +177,15 @@ all_refused status.NoMemory words old new before after is did = absurd (omega ar
 all_refused status.OpenerFailed words old new before after is did = absurd (omega arith)
 
 -- what the words ask for, if they were accepted at a path
-pub accepted_path : (path named mode : List ℕ) (args : OpenArgs) (plan : OpenPlan) (command : Option Command) → command ≡ Some (Run named mode args) → IsAcceptedAt path plan command → (named ≡ path) × (plan_of mode args ≡ Ok plan)
+pub accepted_path : (path named mode : List ℕ) (args : OpenArgs) (plan : OpenPlan) (command : Option Command) → command ≡ Some (Run named mode args) → IsAcceptedAt path plan command → (named ≡ path) × (built_in_plan mode args ≡ Ok plan)
 accepted_path path named mode args plan command form accepted = subst (λ (asked : Option Command). IsAcceptedAt path plan asked) form accepted
 
-left_by : (path named mode : List ℕ) (args : OpenArgs) (plan : OpenPlan) (calls : List Call) (before after : Outside) → named ≡ path → plan_of mode args ≡ Ok plan → PlannedOutcome named mode args calls status.Refused before after → IsTrue before.opener.tells → after.opener.holds path ≡ Some (opened_bytes (raw_mode plan) (before.opener.holds path))
+left_by : (path named mode : List ℕ) (args : OpenArgs) (plan : OpenPlan) (calls : List Call) (before after : Outside) → named ≡ path → built_in_plan mode args ≡ Ok plan → PlannedOutcome named mode args calls status.Refused before after → IsTrue before.opener.tells → after.opener.holds path ≡ Some (opened_bytes (raw_mode plan) (before.opener.holds path))
 left_by path named mode args plan calls before after is accepted (inl refuses) tells = let both : Ok plan ≡ Err refuses.refused = sym accepted ∙ refuses.planned in absurd (cc)
 left_by path named mode args plan calls before after is accepted (inr follows) tells =
     let P : List ℕ → Type 0 = λ at. after.opener.holds at ≡ Some (opened_bytes (raw_mode plan) (before.opener.holds at)) in
     let Q : OpenPlan → Type 0 = λ by. after.opener.holds named ≡ Some (opened_bytes (raw_mode by) (before.opener.holds named)) in
-    subst P is (subst Q (one_plan (plan_of mode args) follows.plan plan follows.planned accepted) (path_left named (asked_by follows.plan calls) before after follows.does tells))
+    subst P is (subst Q (one_plan (built_in_plan mode args) follows.plan plan follows.planned accepted) (path_left named (asked_by follows.plan calls) before after follows.does tells))
 
 -- with the number 4 the path holds what its opening left
 pub path_left_by : (words : List (List ℕ)) (old new : SourceView) (before after : Outside) (path : List ℕ) (plan : OpenPlan) → Ends 4 words old new before after → IsAcceptedAt path plan (command_of words) → IsTrue before.opener.tells → after.opener.holds path ≡ Some (opened_bytes (raw_mode plan) (before.opener.holds path))
@@ -210,7 +210,7 @@ opened_refused path asked before after opened fault.Unsupported why =
     inr (never_told before.opener.tells opened.raw (λ tells. (opened.opens.told tells).seeks) why.1, why.0)
 opened_refused path asked before after opened _ why = absurd why
 
-planned_refused : (path mode : List ℕ) (args : OpenArgs) (calls : List Call) (before after : Outside) → PlannedOutcome path mode args calls status.Refused before after → IsErr (plan_of mode args) ⊎ (Rose before.opener.raw_faults after.opener.raw_faults ⊎ MayNotMove before.opener (Some (Run path mode args)))
+planned_refused : (path mode : List ℕ) (args : OpenArgs) (calls : List Call) (before after : Outside) → PlannedOutcome path mode args calls status.Refused before after → IsErr (built_in_plan mode args) ⊎ (Rose before.opener.raw_faults after.opener.raw_faults ⊎ MayNotMove before.opener (Some (Run path mode args)))
 planned_refused path mode args calls before after (inl refuses) = inl (rw refuses.planned refl)
 planned_refused path mode args calls before after (inr follows) =
     elim (opened_refused path (asked_by follows.plan calls) before after follows.does follows.does.does.1.refused follows.does.does.1.why) [
@@ -240,12 +240,12 @@ opener_misses : (path : List ℕ) (asked : Asked) (before after : Outside) → O
 opener_misses path asked before after (inl refused) tells = refused.1.missed tells
 opener_misses path asked before after (inr opened) tells = let both : true ≡ false = sym tells ∙ opened.2 in absurd (cc)
 
-missed_by : (path named mode : List ℕ) (args : OpenArgs) (plan : OpenPlan) (calls : List Call) (before after : Outside) → named ≡ path → plan_of mode args ≡ Ok plan → PlannedOutcome named mode args calls status.OpenerFailed before after → IsTrue before.opener.tells → misses (raw_mode plan) (before.opener.holds path) ≡ true
+missed_by : (path named mode : List ℕ) (args : OpenArgs) (plan : OpenPlan) (calls : List Call) (before after : Outside) → named ≡ path → built_in_plan mode args ≡ Ok plan → PlannedOutcome named mode args calls status.OpenerFailed before after → IsTrue before.opener.tells → misses (raw_mode plan) (before.opener.holds path) ≡ true
 missed_by path named mode args plan calls before after is accepted (inl refuses) tells = absurd refuses.prints
 missed_by path named mode args plan calls before after is accepted (inr follows) tells =
     let P : List ℕ → Type 0 = λ at. misses (raw_mode plan) (before.opener.holds at) ≡ true in
     let Q : OpenPlan → Type 0 = λ by. misses (raw_mode by) (before.opener.holds named) ≡ true in
-    subst P is (subst Q (one_plan (plan_of mode args) follows.plan plan follows.planned accepted) (opener_misses named (asked_by follows.plan calls) before after follows.does tells))
+    subst P is (subst Q (one_plan (built_in_plan mode args) follows.plan plan follows.planned accepted) (opener_misses named (asked_by follows.plan calls) before after follows.does tells))
 
 -- with the number 8 the plan's mode can't open what the path held
 pub path_missed : (words : List (List ℕ)) (old new : SourceView) (before after : Outside) (path : List ℕ) (plan : OpenPlan) → Ends 8 words old new before after → IsAcceptedAt path plan (command_of words) → IsTrue before.opener.tells → misses (raw_mode plan) (before.opener.holds path) ≡ true
@@ -253,3 +253,48 @@ path_missed words old new before after path plan ends accepted tells =
     let did = all_failed ends.ended words old new before after (sym ends.code_is) ends.outcome in
     let at = accepted_path path did.path did.mode did.args plan (command_of words) did.form accepted in
     missed_by path did.path did.mode did.args plan did.calls before after at.0 at.1 did.does tells
+
+-- A path that the plan's mode can't open.
+
+-- a path that was opened isn't one that the mode can't open
+opened_hit : (path : List ℕ) (asked : Asked) (ended : Status) (before after : Outside) → OpensPath path asked ended before after → IsTrue before.opener.tells → misses (raw_mode asked.plan) (before.opener.holds path) ≡ true → ⊥
+opened_hit path asked ended before after opened tells missed = let both : true ≡ false = sym missed ∙ (opened.opens.told tells).found in cc
+
+planned_hit : (path named mode : List ℕ) (args : OpenArgs) (plan : OpenPlan) (calls : List Call) (ended : Status) (before after : Outside) → ((asked : Asked) → CallsOutcome named asked ended before after → OpensPath named asked ended before after) → named ≡ path → built_in_plan mode args ≡ Ok plan → PlannedOutcome named mode args calls ended before after → IsTrue before.opener.tells → misses (raw_mode plan) (before.opener.holds path) ≡ true → ⊥
+planned_hit path named mode args plan calls ended before after opens is accepted (inl refuses) tells missed = let both : Ok plan ≡ Err refuses.refused = sym accepted ∙ refuses.planned in cc
+planned_hit path named mode args plan calls ended before after opens is accepted (inr follows) tells missed =
+    let P : List ℕ → Type 0 = λ at. misses (raw_mode plan) (before.opener.holds at) ≡ true in
+    let Q : OpenPlan → Type 0 = λ by. misses (raw_mode by) (before.opener.holds named) ≡ true in
+    opened_hit named (asked_by follows.plan calls) ended before after (opens (asked_by follows.plan calls) follows.does) tells
+    (subst Q (one_plan (built_in_plan mode args) plan follows.plan accepted follows.planned) (subst P (sym is) missed))
+
+runs_hit : (words : List (List ℕ)) (ended : Status) (old new : SourceView) (before after : Outside) (path : List ℕ) (plan : OpenPlan) → ((named : List ℕ) (asked : Asked) → CallsOutcome named asked ended before after → OpensPath named asked ended before after) → RunsScript words ended old new before after → IsAcceptedAt path plan (command_of words) → IsTrue before.opener.tells → misses (raw_mode plan) (before.opener.holds path) ≡ true → ⊥
+runs_hit words ended old new before after path plan opens did accepted tells missed =
+    let at = accepted_path path did.path did.mode did.args plan (command_of words) did.form accepted in
+    planned_hit path did.path did.mode did.args plan did.calls ended before after (opens did.path) at.0 at.1 did.does tells missed
+
+-- a text of the program's own isn't a path that is opened
+text_opens_none : (command : Command) (text path : List ℕ) (plan : OpenPlan) → own_text command ≡ Some text → IsAcceptedAt path plan (Some command) → ⊥
+text_opens_none Help text path plan is accepted = accepted
+text_opens_none Version text path plan is accepted = accepted
+text_opens_none (Run named mode args) text path plan is accepted = cc
+
+prints_hit : (words : List (List ℕ)) (ended : Status) (old new : SourceView) (before after : Outside) (path : List ℕ) (plan : OpenPlan) → PrintsText words ended old new before after → IsAcceptedAt path plan (command_of words) → ⊥
+prints_hit words ended old new before after path plan did accepted =
+    text_opens_none did.command did.text path plan did.asked (subst (λ (command : Option Command). IsAcceptedAt path plan command) did.form accepted)
+
+found_by : (code : ℕ) (ended : Status) (words : List (List ℕ)) (old new : SourceView) (before after : Outside) (path : List ℕ) (plan : OpenPlan) → code ≡ code_of ended → Outcome ended words old new before after → IsAcceptedAt path plan (command_of words) → TellsWellFormed old → IsTrue before.opener.tells → misses (raw_mode plan) (before.opener.holds path) ≡ true → (code ≡ 8) ⊎ ((code ≡ 5) ⊎ (code ≡ 7))
+found_by code status.OpenerFailed words old new before after path plan is did accepted well tells missed = inl is
+found_by code status.SourceFailed words old new before after path plan is did accepted well tells missed = inr (inl is)
+found_by code status.NoMemory words old new before after path plan is did accepted well tells missed = inr (inr is)
+found_by code status.WordsMalformed words old new before after path plan is did accepted well tells missed = absurd (subst (λ (command : Option Command). IsAcceptedAt path plan command) did.0 accepted)
+found_by code status.ScriptMalformed words old new before after path plan is did accepted well tells missed = absurd (well.form (did.1 well.told))
+found_by code status.Refused words old new before after path plan is did accepted well tells missed = absurd (runs_hit words status.Refused old new before after path plan (λ named asked opened. opened) did accepted tells missed)
+found_by code status.Done words old new before after path plan is (inl did) accepted well tells missed = absurd (runs_hit words status.Done old new before after path plan (λ named asked opened. opened) did accepted tells missed)
+found_by code status.Done words old new before after path plan is (inr did) accepted well tells missed = absurd (prints_hit words status.Done old new before after path plan did accepted)
+found_by code status.SinkFailed words old new before after path plan is (inl did) accepted well tells missed = absurd (runs_hit words status.SinkFailed old new before after path plan (λ named asked opened. opened) did accepted tells missed)
+found_by code status.SinkFailed words old new before after path plan is (inr did) accepted well tells missed = absurd (prints_hit words status.SinkFailed old new before after path plan did accepted)
+
+-- a path that the plan's mode can't open ends with 8, unless the source failed or memory ran out
+pub path_found : (code : ℕ) (words : List (List ℕ)) (old new : SourceView) (before after : Outside) (path : List ℕ) (plan : OpenPlan) → Ends code words old new before after → IsAcceptedAt path plan (command_of words) → TellsWellFormed old → IsTrue before.opener.tells → misses (raw_mode plan) (before.opener.holds path) ≡ true → (code ≡ 8) ⊎ ((code ≡ 5) ⊎ (code ≡ 7))
+path_found code words old new before after path plan ends accepted well tells missed = found_by code ends.ended words old new before after path plan ends.code_is ends.outcome accepted well tells missed

@@ -22,14 +22,16 @@ use Rattle.py_stream.specs.Access.{can_of, is_able}
 use Rattle.py_stream.specs.declared.access.Access.{Access}
 use Rattle.py_calls.specs.declared.call.Call.{Call}
 use Rattle.py_calls.specs.declared.reply.Reply.{Reply}
-use Rattle.py_mode.specs.declared.mode.EncodeMode.{EncodeMode}
-use Rattle.py_mode.specs.declared.mode.EncodeMode.TheVariants.{Text, Bytes}
+use Rattle.py_mode.specs.declared.plan.PlanKind.{PlanKind}
+use Rattle.py_mode.specs.declared.plan.PlanKind.TheVariants as kind
+use Rattle.py_mode.specs.declared.plan.TextPlan.{TextPlan}
+use Rattle.py_mode.specs.declared.mode.Mode.{Mode}
 use Rattle.py_mode.specs.declared.mode.FileMode.{FileMode}
 use Rattle.py_stream.specs.declared.access.Access.TheVariants as access
 use Rattle.py_mode.specs.declared.open_args.OpenArgs.{OpenArgs}
 use Rattle.py_mode.specs.declared.plan.OpenPlan.{OpenPlan}
 use Rattle.py_mode.specs.Mode.{letter_of}
-use Rattle.py_mode.specs.Plan.{plan_of}
+use Rattle.py_mode.specs.Plan.{built_in_plan}
 use Rattle.py_text_session.specs.Opening.{text_opened, OpensText}
 use Rattle.py_open.specs.Session.{SessionFile, OfText, OfBinary, SessionView, TextSession, BinarySession, file_seen, raw_of, life_of, bytes_in}
 use Rattle.py_open.specs.Opening.{access_of, text_settings, OpensBy}
@@ -99,11 +101,13 @@ text_file raw opened buffer settings bytes text opens told seeks place are =
     ∙ ap (λ (at : ℕ). text_opened bytes at (can_of opened raw.seekable) settings) (opens.place (starts_told (can_of opened true).appending raw told) ∙ begins (can_of opened true).appending raw bytes seeks place are)
     ∙ ap (λ (can : Abilities). text_opened bytes (begins_with (can_of opened true).appending bytes) can settings) (ap (can_of opened) seeks)
 
-file_opened : (encode : EncodeMode) (raw : Raw) (plan : OpenPlan) (bytes : List ℕ) (session : SessionView) → OpensBy encode raw plan session → tells raw ≡ true → raw.seekable ≡ true → raw.place ≡ 0 → raw.bytes ≡ bytes → file_seen session ≡ file_by encode plan bytes
-file_opened Text raw plan bytes (TextSession text) opens tells seeks place are = ap OfText (text_file raw (access_of plan.mode) _ (text_settings plan) bytes text opens tells seeks place are)
-file_opened Bytes raw plan bytes (BinarySession stream) opens tells seeks place are = ap OfBinary (binary_file raw (access_of plan.mode) plan.buffer_size bytes stream opens tells seeks place are)
-file_opened Text raw plan bytes (BinarySession stream) opens tells seeks place are = absurd opens
-file_opened Bytes raw plan bytes (TextSession text) opens tells seeks place are = absurd opens
+file_opened : (planned : PlanKind) (mode : Mode) (raw : Raw) (bytes : List ℕ) (session : SessionView) → OpensBy planned (access_of mode) raw session → tells raw ≡ true → raw.seekable ≡ true → raw.place ≡ 0 → raw.bytes ≡ bytes → file_seen session ≡ file_by planned mode bytes
+file_opened (kind.Text planned) mode raw bytes (TextSession text) opens tells seeks place are = ap OfText (text_file raw (access_of mode) _ (text_settings planned) bytes text opens tells seeks place are)
+file_opened (kind.Buffered size) mode raw bytes (BinarySession stream) opens tells seeks place are = ap OfBinary (binary_file raw (access_of mode) (Some size) bytes stream opens tells seeks place are)
+file_opened kind.Bare mode raw bytes (BinarySession stream) opens tells seeks place are = ap OfBinary (binary_file raw (access_of mode) None bytes stream opens tells seeks place are)
+file_opened (kind.Text planned) mode raw bytes (BinarySession stream) opens tells seeks place are = absurd opens
+file_opened (kind.Buffered size) mode raw bytes (TextSession text) opens tells seeks place are = absurd opens
+file_opened kind.Bare mode raw bytes (TextSession text) opens tells seeks place are = absurd opens
 
 -- with the number 0 all was done
 all_done : (ended : Status) (words : List (List ℕ)) (old new : SourceView) (before after : Outside) → code_of ended ≡ 0 → Outcome ended words old new before after → Outcome status.Done words old new before after
@@ -122,21 +126,23 @@ SmoothRunsSettle = (before : SessionView) (calls : List Call) (replies : List Re
 
 settles_over : SmoothRunsSettle → (raw : Raw) (plan : OpenPlan) (session : SessionView) (calls : List Call) (replies : List Reply) (bytes : List ℕ) → (run : RunsCalls raw plan calls session replies) → IsSmooth (raw_of run.opened) (raw_of session) → tells raw ≡ true → raw.seekable ≡ true → raw.place ≡ 0 → raw.bytes ≡ bytes → NoneLacksMemory (all_said replies) → AllSettle (opened_file plan bytes) calls (all_said replies) (file_seen session)
 settles_over law raw plan session calls replies bytes run smooth told seeks place are memory =
-    subst (λ (file : SessionFile). AllSettle file calls (all_said replies) (file_seen session)) (file_opened plan.mode.encode raw plan bytes run.opened run.opens told seeks place are)
-    (law run.opened calls replies session run.run (tells_still raw (raw_of run.opened) (opening_keeps plan.mode.encode raw plan run.opened run.opens).keeps ∙ told) smooth memory)
+    subst (λ (file : SessionFile). AllSettle file calls (all_said replies) (file_seen session)) (file_opened plan.kind plan.mode raw bytes run.opened run.opens told seeks place are)
+    (law run.opened calls replies session run.run (tells_still raw (raw_of run.opened) (opening_keeps plan.kind (access_of plan.mode) raw run.opened run.opens).keeps ∙ told) smooth memory)
 
 -- a session is live as it was opened
-opened_live : (encode : EncodeMode) (raw : Raw) (plan : OpenPlan) (session : SessionView) → OpensBy encode raw plan session → life_of session ≡ life.Live
-opened_live Text raw plan (TextSession text) opens = ap (λ (file : TextFile). file.life) opens.file
-opened_live Bytes raw plan (BinarySession stream) opens = opens.life_is
-opened_live Text raw plan (BinarySession stream) opens = absurd opens
-opened_live Bytes raw plan (TextSession text) opens = absurd opens
+opened_live : (planned : PlanKind) (opened : Access) (raw : Raw) (session : SessionView) → OpensBy planned opened raw session → life_of session ≡ life.Live
+opened_live (kind.Text planned) opened raw (TextSession text) opens = ap (λ (file : TextFile). file.life) opens.file
+opened_live (kind.Buffered size) opened raw (BinarySession stream) opens = opens.life_is
+opened_live kind.Bare opened raw (BinarySession stream) opens = opens.life_is
+opened_live (kind.Text planned) opened raw (BinarySession stream) opens = absurd opens
+opened_live (kind.Buffered size) opened raw (TextSession text) opens = absurd opens
+opened_live kind.Bare opened raw (TextSession text) opens = absurd opens
 
 -- what the session comes to by the calls and a Close is in the raw
 closed_in_raw : (raw : Raw) (plan : OpenPlan) (session : SessionView) (calls : List Call) (replies : List Reply) → (run : RunsCalls raw plan (closed_calls calls) session replies) → IsSmooth (raw_of run.opened) (raw_of session) → tells raw ≡ true → NoneLacksMemory (all_said replies) → bytes_in (file_seen session) ≡ (raw_of session).bytes
 closed_in_raw raw plan session calls replies run smooth told memory =
-    close_leaves_in_raw run.opened calls replies session run.run (opened_in_step raw plan run.opened run.opens) (opened_live plan.mode.encode raw plan run.opened run.opens)
-    (tells_still raw (raw_of run.opened) (opening_keeps plan.mode.encode raw plan run.opened run.opens).keeps ∙ told) smooth memory
+    close_leaves_in_raw run.opened calls replies session run.run (opened_in_step raw plan run.opened run.opens) (opened_live plan.kind (access_of plan.mode) raw run.opened run.opens)
+    (tells_still raw (raw_of run.opened) (opening_keeps plan.kind (access_of plan.mode) raw run.opened run.opens).keeps ∙ told) smooth memory
 
 -- what the path holds is what the raw gives
 raw_bytes : (held : Option (List ℕ)) (bytes : List ℕ) → held ≡ Some bytes → unwrap_or held [] ≡ bytes
@@ -219,10 +225,10 @@ settled law path mode args old new before after printed told tells ready =
     }
 
 -- with the number 0 a run in which no raw failed or waited printed what settles
-pub prints_settled : SmoothRunsSettle → (words : List (List ℕ)) (old new : SourceView) (before after : Outside) (path mode : List ℕ) (args : OpenArgs) (plan : OpenPlan) → Ends 0 words old new before after → command_of words ≡ Some (Run path mode args) → plan_of mode args ≡ Ok plan → IsTrue old.tells → IsTrue before.opener.tells → RawsAreReady before after → PrintsSettled path plan old before after
+pub prints_settled : SmoothRunsSettle → (words : List (List ℕ)) (old new : SourceView) (before after : Outside) (path mode : List ℕ) (args : OpenArgs) (plan : OpenPlan) → Ends 0 words old new before after → command_of words ≡ Some (Run path mode args) → built_in_plan mode args ≡ Ok plan → IsTrue old.tells → IsTrue before.opener.tells → RawsAreReady before after → PrintsSettled path plan old before after
 prints_settled law words old new before after path mode args plan ends form accepted told tells ready =
     let printed = prints_replies words old new before after path mode args ends form in
-    subst (λ (by : OpenPlan). PrintsSettled path by old before after) (one_plan (plan_of mode args) printed.plan plan printed.planned accepted) (settled law path mode args old new before after printed told tells ready)
+    subst (λ (by : OpenPlan). PrintsSettled path by old before after) (one_plan (built_in_plan mode args) printed.plan plan printed.planned accepted) (settled law path mode args old new before after printed told tells ready)
 
 -- calls of a text that all settle are answered by the exact replies
 abbrev pub SettledTextsAreExact : Type 0
@@ -231,33 +237,33 @@ SettledTextsAreExact = (before : TextFile) (calls : List Call) (replies : List F
 -- what a run that only reads leaves at the path is what it held
 held_still : (plan : OpenPlan) (calls : List Call) (replies : List Reply) (raw : Raw) (session : SessionView) (held : Option (List ℕ)) (bytes : List ℕ) → access_of plan.mode ≡ access.Read → held ≡ Some bytes → tells raw ≡ true → raw.bytes ≡ opened_bytes (raw_mode plan) held → (run : RunsCalls raw plan calls session replies) → (raw_of session).bytes ≡ bytes
 held_still plan calls replies raw session held bytes reads holds told are run =
-    let opened = opening_keeps plan.mode.encode raw plan run.opened run.opens in
-    run_spares run.opened calls replies session run.run (opened_to_read plan.mode.encode raw plan run.opened reads run.opens) (opened.keeps.tells_bytes ∙ tells_its_bytes raw told)
+    let opened = opening_keeps plan.kind (access_of plan.mode) raw run.opened run.opens in
+    run_spares run.opened calls replies session run.run (opened_to_read plan.kind (access_of plan.mode) raw run.opened reads run.opens) (opened.keeps.tells_bytes ∙ tells_its_bytes raw told)
     ∙ opened.bytes (tells_its_bytes raw told)
     ∙ are
     ∙ ap (λ (file : FileMode). opened_bytes (raw_mode_text (letter_of file) plan.mode.plus) held) (file_read plan.mode.file plan.mode.plus reads)
     ∙ ap (λ (some : Option (List ℕ)). unwrap_or some []) holds
 
-path_still : (path mode : List ℕ) (args : OpenArgs) (old new : SourceView) (before after : Outside) (plan : OpenPlan) (bytes : List ℕ) → PrintsReplies path mode args old new before after → plan_of mode args ≡ Ok plan → access_of plan.mode ≡ access.Read → IsTrue before.opener.tells → before.opener.holds path ≡ Some bytes → after.opener.holds path ≡ Some bytes
+path_still : (path mode : List ℕ) (args : OpenArgs) (old new : SourceView) (before after : Outside) (plan : OpenPlan) (bytes : List ℕ) → PrintsReplies path mode args old new before after → built_in_plan mode args ≡ Ok plan → access_of plan.mode ≡ access.Read → IsTrue before.opener.tells → before.opener.holds path ≡ Some bytes → after.opener.holds path ≡ Some bytes
 path_still path mode args old new before after plan bytes printed accepted is_read tells holds =
     let begun = printed.begins tells in
-    let one : printed.plan ≡ plan = one_plan (plan_of mode args) printed.plan plan printed.planned accepted in
+    let one : printed.plan ≡ plan = one_plan (built_in_plan mode args) printed.plan plan printed.planned accepted in
     let reads : access_of printed.plan.mode ≡ access.Read = ap (λ (by : OpenPlan). access_of by.mode) one ∙ is_read in
     printed.holds tells ∙ ap Some (held_still printed.plan (closed_calls printed.calls) printed.replies printed.raw printed.session (before.opener.holds path) bytes reads holds begun.tells begun.bytes_are printed.run)
 
 -- what a text is opened to of these bytes
-text_opened_by : (plan : OpenPlan) (bytes : List ℕ) → plan.mode.encode ≡ Text → opened_file plan bytes ≡ OfText (text_by plan bytes)
-text_opened_by plan bytes is_text = ap (λ (encode : EncodeMode). file_by encode plan bytes) is_text
+text_opened_by : (plan : OpenPlan) (text : TextPlan) (bytes : List ℕ) → plan.kind ≡ kind.Text text → opened_file plan bytes ≡ OfText (text_by plan.mode text bytes)
+text_opened_by plan text bytes is_text = ap (λ (planned : PlanKind). file_by planned plan.mode bytes) is_text
 
 -- with the number 0 a run of a text in which no raw failed or waited printed the exact replies
-pub prints_exactly : SmoothRunsSettle → SettledTextsAreExact → (words : List (List ℕ)) (old new : SourceView) (before after : Outside) (path mode : List ℕ) (args : OpenArgs) (plan : OpenPlan) → Ends 0 words old new before after → command_of words ≡ Some (Run path mode args) → plan_of mode args ≡ Ok plan → plan.mode.encode ≡ Text → IsTrue old.tells → IsTrue before.opener.tells → RawsAreReady before after → PrintsExactly path plan old before after
-prints_exactly law exact words old new before after path mode args plan ends form accepted is_text told tells ready =
+pub prints_exactly : SmoothRunsSettle → SettledTextsAreExact → (words : List (List ℕ)) (old new : SourceView) (before after : Outside) (path mode : List ℕ) (args : OpenArgs) (plan : OpenPlan) (text : TextPlan) → Ends 0 words old new before after → command_of words ≡ Some (Run path mode args) → built_in_plan mode args ≡ Ok plan → plan.kind ≡ kind.Text text → IsTrue old.tells → IsTrue before.opener.tells → RawsAreReady before after → PrintsExactly path plan text old before after
+prints_exactly law exact words old new before after path mode args plan text ends form accepted is_text told tells ready =
     let printed = prints_settled law words old new before after path mode args plan ends form accepted told tells ready in
     let bytes : List ℕ = opened_bytes (raw_mode plan) (before.opener.holds path) in
     let made : List Call = closed_calls printed.calls in
-    let is_exact : (memory : NoneLacksMemory (all_said printed.replies)) → IsExact (text_by plan bytes) made (all_said printed.replies) (printed.says memory).last = λ memory.
+    let is_exact : (memory : NoneLacksMemory (all_said printed.replies)) → IsExact (text_by plan.mode text bytes) made (all_said printed.replies) (printed.says memory).last = λ memory.
     let settles = printed.says memory in
-    exact (text_by plan bytes) made (all_said printed.replies) settles.last (subst (λ (begun : SessionFile). AllSettle begun made (all_said printed.replies) settles.last) (text_opened_by plan bytes is_text) settles.settles) in
+    exact (text_by plan.mode text bytes) made (all_said printed.replies) settles.last (subst (λ (begun : SessionFile). AllSettle begun made (all_said printed.replies) settles.last) (text_opened_by plan text bytes is_text) settles.settles) in
     record {
       calls = printed.calls;
       form = printed.form;

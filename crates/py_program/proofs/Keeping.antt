@@ -10,16 +10,17 @@ use Rattle.py_raw.proofs.Telling.{tells_its_bytes}
 use Rattle.py_raw.specs.RawMode.{raw_mode_text}
 use Rattle.py_source_sink.specs.Sink.{SinkView}
 use Rattle.py_raw.specs.Opener.{OpenerView, HoldsTheSame, OthersHoldTheSame, misses, opened_bytes}
-use Rattle.py_stream.specs.Opening.{Lacking, Untouched}
-use Rattle.py_mode.specs.declared.mode.EncodeMode.{EncodeMode}
-use Rattle.py_mode.specs.declared.mode.EncodeMode.TheVariants.{Text, Bytes}
+use Rattle.py_stream.specs.Stream.{Stream}
+use Rattle.py_stream.specs.Opening.{Lacking, Untouched, Opens}
+use Rattle.py_mode.specs.declared.plan.PlanKind.{PlanKind}
+use Rattle.py_mode.specs.declared.plan.PlanKind.TheVariants as kind
 use Rattle.py_mode.specs.declared.mode.FileMode.{FileMode}
 use Rattle.py_mode.specs.declared.mode.FileMode.TheVariants.{Read, Write, Exclusive, Append}
 use Rattle.py_mode.specs.declared.plan.OpenPlan.{OpenPlan}
 use Rattle.py_mode.specs.Mode.{letter_of}
 use Rattle.py_stream.specs.declared.access.Access.{Access}
 use Rattle.py_stream.specs.declared.access.Access.TheVariants as access
-use Rattle.py_stream.specs.Access.{can_of}
+use Rattle.py_stream.specs.Access.{can_of, is_able}
 use Rattle.py_open.specs.Session.{SessionView, TextSession, BinarySession, raw_of}
 use Rattle.py_open.specs.Opening.{access_by, access_of, OpensBy}
 use Rattle.py_open.specs.Run.{RefusesOpening}
@@ -54,27 +55,34 @@ others_of_both path old mid new first second other differs = second other differ
 -- A raw that is only read keeps its bytes.
 
 -- an opening leaves a raw's bytes
-pub opening_keeps : (encode : EncodeMode) (raw : Raw) (plan : OpenPlan) (session : SessionView) → OpensBy encode raw plan session → Untouched raw (raw_of session)
-opening_keeps Text raw plan (TextSession text) opens = opens.untouched
-opening_keeps Bytes raw plan (BinarySession stream) opens = opens.untouched
-opening_keeps Text raw plan (BinarySession stream) opens = absurd opens
-opening_keeps Bytes raw plan (TextSession text) opens = absurd opens
+pub opening_keeps : (planned : PlanKind) (opened : Access) (raw : Raw) (session : SessionView) → OpensBy planned opened raw session → Untouched raw (raw_of session)
+opening_keeps (kind.Text planned) opened raw (TextSession text) opens = opens.untouched
+opening_keeps (kind.Buffered size) opened raw (BinarySession stream) opens = opens.untouched
+opening_keeps kind.Bare opened raw (BinarySession stream) opens = opens.untouched
+opening_keeps (kind.Text planned) opened raw (BinarySession stream) opens = absurd opens
+opening_keeps (kind.Buffered size) opened raw (TextSession text) opens = absurd opens
+opening_keeps kind.Bare opened raw (TextSession text) opens = absurd opens
+
+bytes_to_read : (opened : Access) (raw : Raw) (buffer : Option ℕ) (stream : Stream) → opened ≡ access.Read → Opens (is_able opened buffer) (can_of opened) raw buffer stream → OnlyReads (BinarySession stream)
+bytes_to_read opened raw buffer stream reads opens = (ap (λ (can : Abilities). can.writable) (opens.can_do ∙ ap (λ (by : Access). can_of by raw.seekable) reads), opens.owed)
 
 -- a session that is opened to be read only reads
-pub opened_to_read : (encode : EncodeMode) (raw : Raw) (plan : OpenPlan) (session : SessionView) → access_of plan.mode ≡ access.Read → OpensBy encode raw plan session → OnlyReads session
-opened_to_read Text raw plan (TextSession view) reads opens = (
-  ap (λ (file : TextFile). file.can.writable) opens.file ∙ ap (λ (opened : Access). (can_of opened raw.seekable).writable) reads,
+pub opened_to_read : (planned : PlanKind) (opened : Access) (raw : Raw) (session : SessionView) → opened ≡ access.Read → OpensBy planned opened raw session → OnlyReads session
+opened_to_read (kind.Text planned) opened raw (TextSession view) reads opens = (
+  ap (λ (file : TextFile). file.can.writable) opens.file ∙ ap (λ (by : Access). (can_of by raw.seekable).writable) reads,
   record { none = opens.none; own = opens.own; life_is = opens.life_is ∙ sym (ap (λ (file : TextFile). file.life) opens.file) },
 )
-opened_to_read Bytes raw plan (BinarySession stream) reads opens = (ap (λ (can : Abilities). can.writable) (opens.can_do ∙ ap (λ (opened : Access). can_of opened raw.seekable) reads), opens.owed)
-opened_to_read Text raw plan (BinarySession stream) reads opens = absurd opens
-opened_to_read Bytes raw plan (TextSession text) reads opens = absurd opens
+opened_to_read (kind.Buffered size) opened raw (BinarySession stream) reads opens = bytes_to_read opened raw (Some size) stream reads opens
+opened_to_read kind.Bare opened raw (BinarySession stream) reads opens = bytes_to_read opened raw None stream reads opens
+opened_to_read (kind.Text planned) opened raw (BinarySession stream) reads opens = absurd opens
+opened_to_read (kind.Buffered size) opened raw (TextSession text) reads opens = absurd opens
+opened_to_read kind.Bare opened raw (TextSession text) reads opens = absurd opens
 
 run_keeps : (raw back : Raw) (asked : Asked) (lines : List ℕ) → access_of asked.plan.mode ≡ access.Read → RanCalls raw asked back lines → IsTrue raw.tells_bytes → back.bytes ≡ raw.bytes
 run_keeps raw back asked lines reads ran tells =
-    let opened = opening_keeps asked.plan.mode.encode raw asked.plan ran.run.opened ran.run.opens in
+    let opened = opening_keeps asked.plan.kind (access_of asked.plan.mode) raw ran.run.opened ran.run.opens in
     ap (λ (last : Raw). last.bytes) ran.raw_is
-    ∙ run_spares ran.run.opened (closed_calls asked.calls) ran.replies ran.session ran.run.run (opened_to_read asked.plan.mode.encode raw asked.plan ran.run.opened reads ran.run.opens) (opened.keeps.tells_bytes ∙ tells)
+    ∙ run_spares ran.run.opened (closed_calls asked.calls) ran.replies ran.session ran.run.run (opened_to_read asked.plan.kind (access_of asked.plan.mode) raw ran.run.opened reads ran.run.opens) (opened.keeps.tells_bytes ∙ tells)
     ∙ opened.bytes tells
 
 lacking_keeps : (appends : Bool) (raw back : Raw) → Lacking appends raw back → IsTrue raw.tells_bytes → back.bytes ≡ raw.bytes

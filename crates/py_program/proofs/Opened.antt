@@ -6,6 +6,7 @@ use Rattle.py_raw.specs.RawStream.{Raw}
 use Rattle.py_raw.proofs.Telling.{tells_still}
 use Rattle.py_source_sink.specs.Sink.{SinkView}
 use Rattle.py_raw.specs.Opener.{OpenerView, OpenKeeps, Opens, DoneKeeps, DoneOutcome, PutsAway}
+use Rattle.py_open.specs.Opening.{access_of}
 use Rattle.py_program.specs.declared.status.Status.{Status}
 use Rattle.py_program.specs.declared.status.Status.TheVariants as status
 use Rattle.py_open.specs.Session.{raw_of}
@@ -30,7 +31,7 @@ puts_away path asked raw back before mid after (Err open_error.Memory) keeps ope
 holds_flat : (path : List ℕ) (asked : Asked) (raw back : Raw) (before mid after : OpenerView) (old new : SinkView) (lines : List ℕ) → Opens before path (raw_mode asked.plan) raw mid → (IsTrue before.tells → PutsAway back mid path after) → (ran : RanCalls raw asked back lines) → PathHoldsFlat path ran.run.opened ran.session (record { opener = before; sink = old }) (record { opener = after; sink = new })
 holds_flat path asked raw back before mid after old new lines opens puts ran front rest replies others live_view next call reply first step second live ended passes tells =
     let told = opens.told tells in
-    let begun = opening_keeps asked.plan.mode.encode raw asked.plan ran.run.opened ran.run.opens in
+    let begun = opening_keeps asked.plan.kind (access_of asked.plan.mode) raw ran.run.opened ran.run.opens in
     let kept = run_keeps_raw ran.run.opened front replies live_view first in
     let in_step = run_in_step ran.run.opened front replies live_view first (opened_in_step raw asked.plan ran.run.opened ran.run.opens) in
     let flat = step_passes live_view call reply next step in_step live passes in

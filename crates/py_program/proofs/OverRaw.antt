@@ -6,8 +6,7 @@ use Rattle.py_raw.specs.RawStream.{Raw}
 use Rattle.py_source_sink.specs.Sink.{SinkView}
 use Rattle.py_raw.specs.Opener.{IsOpened}
 use Rattle.py_calls.specs.declared.reply.Reply.{Reply}
-use Rattle.py_mode.specs.declared.open_args.OpenArgs.{OpenArgs}
-use Rattle.py_mode.specs.Plan.{plan_of}
+use Rattle.py_mode.specs.Plan.{IsPlanned}
 use Rattle.py_open.specs.Session.{SessionView, raw_of}
 use Rattle.py_open.specs.Run.{RefusesOpening, RunsCalls}
 use Rattle.py_script.specs.ReplyLine.{reply_lines}
@@ -56,9 +55,9 @@ pub starved : (raw back : Raw) (asked : Asked) (refused : IoFault) (sink : SinkV
 starved raw back asked refused sink why is = inr (record { hands = inr (subst (λ (by : IoFault). RefusesOpening raw asked.plan by back) is why); sink = refl })
 
 -- a session that couldn't be opened over a raw had its refusal printed, or a front of it
-pub refused_printed : (raw back : Raw) (mode : List ℕ) (args : OpenArgs) (asked : Asked) (refused : IoFault) (old new : SinkView) (printed : Result (Unit {0}) Status) (ended : Status) → plan_of mode args ≡ Ok asked.plan → IsOpened (raw_mode asked.plan) raw → RefusesOpening raw asked.plan refused back → (refused ≡ fault.NoMemory → ⊥) → PrintOutcome old (refused_line refused) printed new → MatchResult printed (λ done. ended ≡ status.Refused) (λ stop. ended ≡ stop) → RawOutcome raw asked ended back old new
-refused_printed raw back mode args asked refused old new printed ended accepted opened why not_memory prints ends =
-    elim (refused_by raw back mode args asked.plan refused accepted opened why) [
+pub refused_printed : (raw back : Raw) (asked : Asked) (refused : IoFault) (old new : SinkView) (printed : Result (Unit {0}) Status) (ended : Status) → IsPlanned asked.plan → IsOpened (raw_mode asked.plan) raw → RefusesOpening raw asked.plan refused back → (refused ≡ fault.NoMemory → ⊥) → PrintOutcome old (refused_line refused) printed new → MatchResult printed (λ done. ended ≡ status.Refused) (λ stop. ended ≡ stop) → RawOutcome raw asked ended back old new
+refused_printed raw back asked refused old new printed ended may opened why not_memory prints ends =
+    elim (refused_by raw back asked.plan refused may opened why) [
       | inl is ↦ absurd (not_memory is)
       | inr by ↦ refusal_printed raw asked back (refused_line refused) old new printed ended (record { refused = refused; why = by; lines_are = refl }) prints ends
     ]

@@ -1,5 +1,5 @@
 -- What holds of a plan that is accepted, and of one that refuses.
-use Rattle.std.proofs.Common.{◌≡◌, ◌≢◌, ℕ, ◌⊎◌, inl, inr, Bool, true, false, IsFalse, List, Option, Some, None, IsSome, Result, Ok, Err, MatchResult, refl, sym, ◌∙◌, subst}
+use Rattle.std.proofs.Common.{◌≡◌, ◌≢◌, ℕ, ◌⊎◌, inl, inr, Bool, true, false, IsFalse, List, Option, Some, None, IsSome, Result, Ok, Err, MatchResult, refl, sym, ◌∙◌, subst, arith}
 use Rattle.py_flat.specs.declared.fault.IoFault.{IoFault}
 use Rattle.py_flat.specs.declared.fault.IoFault.TheVariants as fault
 use Rattle.py_raw.specs.RawMode.{raw_mode_text}
@@ -16,11 +16,13 @@ use Rattle.py_mode.specs.declared.plan.OpenPlan.{OpenPlan}
 use Rattle.py_mode.specs.declared.mode.FileMode.{FileMode}
 use Rattle.py_mode.specs.declared.mode.FileMode.TheVariants.{Read, Write, Exclusive, Append}
 use Rattle.py_mode.specs.Mode.{letter_of}
-use Rattle.py_mode.specs.Plan.{plan_of}
-use Rattle.py_mode.proofs.Planning.{planned_buffer_is_not_empty}
+use Rattle.py_mode.specs.declared.mode.Mode.{Mode}
+use Rattle.py_mode.specs.declared.plan.PlanKind.{PlanKind}
+use Rattle.py_mode.specs.declared.plan.PlanKind.TheVariants as kind
+use Rattle.py_mode.specs.Plan.{built_in_plan, buffer_of, IsPlannedAs, IsPlanned}
 use Rattle.py_open.specs.Session.{SessionView}
-use Rattle.py_open.specs.Opening.{access_by, access_of, RefusesSession}
-use Rattle.py_open.specs.Run.{RefusesOpening, RefusesPlanned, RunsCalls}
+use Rattle.py_open.specs.Opening.{access_by, access_of, suits_plan, RefusesSession}
+use Rattle.py_open.specs.Run.{RefusesOpening}
 use Rattle.py_script.specs.Faults.{refused_line}
 use Rattle.py_program.specs.declared.status.Status.{Status}
 use Rattle.py_program.specs.declared.status.Status.TheVariants as status
@@ -30,15 +32,6 @@ use Rattle.py_program.specs.Outcome.{raw_mode, RefusesOpened, RefusalPrinted, Re
 -- a mode and arguments have one plan
 pub one_plan : (result : Result OpenPlan IoFault) (first second : OpenPlan) → result ≡ Ok first → result ≡ Ok second → first ≡ second
 one_plan result first second one two = let both : Ok first ≡ Ok second = sym one ∙ two in cc
-
--- a run by the plan of a mode and arguments is one by their plan as it is named here
-pub run_by : (raw : Raw) (mode : List ℕ) (args : OpenArgs) (first plan : OpenPlan) (calls : List Call) (session : SessionView) (replies : List Reply) → plan_of mode args ≡ Ok first → plan_of mode args ≡ Ok plan → RunsCalls raw first calls session replies → RunsCalls raw plan calls session replies
-run_by raw mode args first plan calls session replies one two run =
-    subst (λ (by : OpenPlan). RunsCalls raw by calls session replies) (one_plan (plan_of mode args) first plan one two) run
-
--- a refusal of an opening that the plan accepts is the session's
-pub refused_raw : (raw : Raw) (mode : List ℕ) (args : OpenArgs) (plan : OpenPlan) (refused : IoFault) (back : Raw) → plan_of mode args ≡ Ok plan → RefusesPlanned raw (plan_of mode args) refused back → RefusesOpening raw plan refused back
-refused_raw raw mode args plan refused back accepted why = subst (λ (planned : Result OpenPlan IoFault). RefusesPlanned raw planned refused back) accepted why
 
 -- A raw that was opened as it is planned.
 
@@ -62,26 +55,32 @@ opened_able Append false buffer raw opened = inl opened.writes
 opened_able Append true buffer raw opened = inl opened.writes
 
 -- a raw that isn't able can't seek, and has to be moved
-unable : (raw back : Raw) (plan : OpenPlan) → IsAble (access_of plan.mode) plan.buffer_size raw → is_able (access_of plan.mode) plan.buffer_size raw ≡ false → back ≡ raw → RefusesOpened raw plan fault.Unsupported back
+unable : (raw back : Raw) (plan : OpenPlan) → IsAble (access_of plan.mode) (buffer_of plan.kind) raw → suits_plan plan raw ≡ false → back ≡ raw → RefusesOpened raw plan fault.Unsupported back
 unable raw back plan (inl able) lacking same = let both : true ≡ false = sym able ∙ lacking in absurd (cc)
 unable raw back plan (inr still) lacking same = ((still.0, still.1), still.2, same)
 
 -- a session over a raw that was opened is refused when out of memory, by a fault of the raw, or where it has to be moved and can't seek
-refused_session : (raw back : Raw) (plan : OpenPlan) (refused : IoFault) → IsOpened (raw_mode plan) raw → plan.buffer_size ≢ Some 0 → RefusesSession raw plan refused back → (refused ≡ fault.NoMemory) ⊎ RefusesOpened raw plan refused back
+refused_session : (raw back : Raw) (plan : OpenPlan) (refused : IoFault) → IsOpened (raw_mode plan) raw → buffer_of plan.kind ≢ Some 0 → RefusesSession raw plan refused back → (refused ≡ fault.NoMemory) ⊎ RefusesOpened raw plan refused back
 refused_session raw back plan fault.NoMemory opened some why = inl refl
 refused_session raw back plan fault.RawFault opened some why = inr why
 refused_session raw back plan fault.Closed opened some why = let closed : true ≡ false = sym why.0 ∙ opened.live in cc
-refused_session raw back plan fault.Unsupported opened some why = inr (unable raw back plan (opened_able plan.mode.file plan.mode.plus plan.buffer_size raw opened) why.1 why.2)
+refused_session raw back plan fault.Unsupported opened some why = inr (unable raw back plan (opened_able plan.mode.file plan.mode.plus (buffer_of plan.kind) raw opened) why.1 why.2)
 refused_session raw back plan fault.BadArgument opened some why = absurd (some why.2)
 refused_session raw back plan _ opened some why = absurd why
 
+-- what can be opened has no buffer of no bytes
+some_bytes : (mode : Mode) (planned : PlanKind) → IsPlannedAs mode planned → buffer_of planned ≢ Some 0
+some_bytes mode (kind.Text text) may is = let none : text.buffer_size ≡ 0 = cc in let some = may.buffer in omega arith
+some_bytes mode (kind.Buffered size) may is = let none : size ≡ 0 = cc in omega arith
+some_bytes mode kind.Bare may is = cc
+
 -- a session over an opened raw is refused by running out of memory, or as an opened raw is
-pub refused_by : (raw back : Raw) (mode : List ℕ) (args : OpenArgs) (plan : OpenPlan) (refused : IoFault) → plan_of mode args ≡ Ok plan → IsOpened (raw_mode plan) raw → RefusesOpening raw plan refused back → (refused ≡ fault.NoMemory) ⊎ RefusesOpened raw plan refused back
-refused_by raw back mode args plan refused accepted opened why = refused_session raw back plan refused opened (planned_buffer_is_not_empty mode args plan accepted) why
+pub refused_by : (raw back : Raw) (plan : OpenPlan) (refused : IoFault) → IsPlanned plan → IsOpened (raw_mode plan) raw → RefusesOpening raw plan refused back → (refused ≡ fault.NoMemory) ⊎ RefusesOpened raw plan refused back
+refused_by raw back plan refused may opened why = refused_session raw back plan refused opened (some_bytes plan.mode plan.kind may) why
 
 -- A plan that refuses.
 
-refuses : (mode : List ℕ) (args : OpenArgs) (refused : IoFault) (opener : OpenerView) (old new : SinkView) (ended : Status) → plan_of mode args ≡ Err refused → RefusalPrinted refused ended old new → RefusesPlan mode args ended (record { opener = opener; sink = old }) (record { opener = opener; sink = new })
+refuses : (mode : List ℕ) (args : OpenArgs) (refused : IoFault) (opener : OpenerView) (old new : SinkView) (ended : Status) → built_in_plan mode args ≡ Err refused → RefusalPrinted refused ended old new → RefusesPlan mode args ended (record { opener = opener; sink = old }) (record { opener = opener; sink = new })
 refuses mode args refused opener old new ended planned prints = record { refused = refused; planned = planned; opener = refl; prints = prints }
 
 printed_refusal : (refused : IoFault) (old new : SinkView) (printed : Result (Unit {0}) Status) (ended : Status) → PrintOutcome old (refused_line refused) printed new → MatchResult printed (λ done. ended ≡ status.Refused) (λ stop. ended ≡ stop) → RefusalPrinted refused ended old new
@@ -96,6 +95,6 @@ printed_refusal refused old new (Err status.SourceFailed) ended prints is = absu
 printed_refusal refused old new (Err status.OpenerFailed) ended prints is = absurd prints
 
 -- an opening that the plan refuses had its refusal printed, or a front of it
-pub plan_refused : (path mode : List ℕ) (args : OpenArgs) (calls : List Call) (refused : IoFault) (opener : OpenerView) (old new : SinkView) (printed : Result (Unit {0}) Status) (ended : Status) → plan_of mode args ≡ Err refused → PrintOutcome old (refused_line refused) printed new → MatchResult printed (λ done. ended ≡ status.Refused) (λ stop. ended ≡ stop) → PlannedOutcome path mode args calls ended (record { opener = opener; sink = old }) (record { opener = opener; sink = new })
+pub plan_refused : (path mode : List ℕ) (args : OpenArgs) (calls : List Call) (refused : IoFault) (opener : OpenerView) (old new : SinkView) (printed : Result (Unit {0}) Status) (ended : Status) → built_in_plan mode args ≡ Err refused → PrintOutcome old (refused_line refused) printed new → MatchResult printed (λ done. ended ≡ status.Refused) (λ stop. ended ≡ stop) → PlannedOutcome path mode args calls ended (record { opener = opener; sink = old }) (record { opener = opener; sink = new })
 plan_refused path mode args calls refused opener old new printed ended planned prints is =
     inl (refuses mode args refused opener old new ended planned (printed_refusal refused old new printed ended prints is))

@@ -5,7 +5,7 @@ use Rattle.py_source_sink.specs.Source.{SourceView}
 use Rattle.py_calls.specs.declared.call.Call.{Call}
 use Rattle.py_mode.specs.declared.open_args.OpenArgs.{OpenArgs}
 use Rattle.py_mode.specs.declared.plan.OpenPlan.{OpenPlan}
-use Rattle.py_mode.specs.Plan.{plan_of}
+use Rattle.py_mode.specs.Plan.{built_in_plan}
 use Rattle.py_open.proofs.Runs.{smooth_settles}
 use Rattle.py_script.specs.CommandWords.{Command, Run, command_of}
 use Rattle.py_script.specs.Script.{script_calls}
@@ -22,13 +22,13 @@ well_formed script calls short form (inl long) = omega arith
 well_formed script calls short form (inr none) = let wrong : Some calls ≡ None = sym form ∙ none in absurd (cc)
 
 -- an opening that the plan accepts is none that it refuses
-accepted_plan : (command : Option Command) (path mode : List ℕ) (args : OpenArgs) (plan : OpenPlan) → command ≡ Some (Run path mode args) → plan_of mode args ≡ Ok plan → ¬ IsRefusedPlan command
+accepted_plan : (command : Option Command) (path mode : List ℕ) (args : OpenArgs) (plan : OpenPlan) → command ≡ Some (Run path mode args) → built_in_plan mode args ≡ Ok plan → ¬ IsRefusedPlan command
 accepted_plan command path mode args plan form accepted refused =
-    let asked : IsErr (plan_of mode args) = subst IsRefusedPlan form refused in
+    let asked : IsErr (built_in_plan mode args) = subst IsRefusedPlan form refused in
     absurd (let wrong : IsErr {T = OpenPlan} {E = IoFault} (Ok plan) = subst (λ (planned : Result OpenPlan IoFault). IsErr planned) accepted asked in cc)
 
 -- with the number 0 all is as the model says
-done_as_model : (words : List (List ℕ)) (old new : SourceView) (before after : Outside) (path mode : List ℕ) (args : OpenArgs) (plan : OpenPlan) (calls : List Call) → Ends 0 words old new before after → command_of words ≡ Some (Run path mode args) → plan_of mode args ≡ Ok plan → TellsCalls old calls → IsTrue before.opener.tells → IsSmoothOutside old new before after → DoesAsTheModel 0 path plan calls before after
+done_as_model : (words : List (List ℕ)) (old new : SourceView) (before after : Outside) (path mode : List ℕ) (args : OpenArgs) (plan : OpenPlan) (calls : List Call) → Ends 0 words old new before after → command_of words ≡ Some (Run path mode args) → built_in_plan mode args ≡ Ok plan → TellsCalls old calls → IsTrue before.opener.tells → IsSmoothOutside old new before after → DoesAsTheModel 0 path plan calls before after
 done_as_model words old new before after path mode args plan calls ends form accepted script tells smooth =
     let printed = prints_settled smooth_settles words old new before after path mode args plan ends form accepted script.told tells (record { faults = smooth.fails.raws; waits = smooth.waits }) in
     let same : printed.calls ≡ calls = let both : Some printed.calls ≡ Some calls = sym printed.form ∙ script.form in cc in
@@ -45,7 +45,7 @@ done_as_model words old new before after path mode args plan calls ends form acc
 pub does_as_model : (code : ℕ) (words : List (List ℕ)) (old new : SourceView) (before after : Outside) → Ends code words old new before after
     → (command_of words ≢ None → ¬ IsRefusedPlan (command_of words) → NothingFails old new before after → (code ≡ 0) ⊎ ((code ≡ 3) ⊎ ((code ≡ 7) ⊎ ((code ≡ 4) × MayNotMove before.opener (command_of words)))))
     → (code ≡ 3 → IsTrue old.tells → IsMalformed old.left)
-    → (path mode : List ℕ) (args : OpenArgs) (plan : OpenPlan) (calls : List Call) → command_of words ≡ Some (Run path mode args) → plan_of mode args ≡ Ok plan → TellsCalls old calls → IsTrue before.opener.tells → IsSmoothOutside old new before after → code ≢ 7 → DoesAsTheModel code path plan calls before after
+    → (path mode : List ℕ) (args : OpenArgs) (plan : OpenPlan) (calls : List Call) → command_of words ≡ Some (Run path mode args) → built_in_plan mode args ≡ Ok plan → TellsCalls old calls → IsTrue before.opener.tells → IsSmoothOutside old new before after → code ≢ 7 → DoesAsTheModel code path plan calls before after
 does_as_model code words old new before after ends complete malformed path mode args plan calls form accepted script tells smooth had =
     elim (complete (λ none. let wrong : Some (Run path mode args) ≡ None = sym form ∙ none in absurd (cc)) (accepted_plan (command_of words) path mode args plan form accepted) smooth.fails) [
       | inl is ↦ subst (λ (number : ℕ). DoesAsTheModel number path plan calls before after) (sym is) (done_as_model words old new before after path mode args plan calls (subst (λ (number : ℕ). Ends number words old new before after) is ends) form accepted script tells smooth)

@@ -1,6 +1,7 @@
 -- What the clauses of the program speak of beside its outcome.
 use Rattle.std.specs.Prelude.{◌≡◌, ◌≢◌, ◌≤◌, ℕ, ◌⊎◌, Bool, true, false, IsTrue, IsFalse, List, length, Option, Some, None, Ok, IsErr, if◌then◌else◌}
 use Rattle.py_flat.specs.declared.life.Life.TheVariants as life
+use Rattle.py_flat.specs.FlatFile.{FlatFile}
 use Rattle.py_flat.specs.Causes.{rose, Rose, RoseBy}
 use Rattle.py_raw.specs.RawStream.{Raw, tells as raw_tells}
 use Rattle.py_raw.specs.Opener.{OpenerView, NoOpenerFault, misses, IsOpened, opened_bytes, HoldsTheSame, OthersHoldTheSame}
@@ -11,11 +12,13 @@ use Rattle.py_stream.specs.declared.access.Access.TheVariants as access
 use Rattle.py_stream.specs.Access.{can_of}
 use Rattle.py_calls.specs.declared.call.Call.{Call}
 use Rattle.py_calls.specs.declared.reply.Reply.{Reply}
-use Rattle.py_mode.specs.declared.mode.EncodeMode.{EncodeMode}
-use Rattle.py_mode.specs.declared.mode.EncodeMode.TheVariants.{Text, Bytes}
+use Rattle.py_mode.specs.declared.plan.PlanKind.{PlanKind}
+use Rattle.py_mode.specs.declared.plan.PlanKind.TheVariants as kind
+use Rattle.py_mode.specs.declared.plan.TextPlan.{TextPlan}
+use Rattle.py_mode.specs.declared.mode.Mode.{Mode}
 use Rattle.py_mode.specs.declared.open_args.OpenArgs.{OpenArgs}
 use Rattle.py_mode.specs.declared.plan.OpenPlan.{OpenPlan}
-use Rattle.py_mode.specs.Plan.{plan_of}
+use Rattle.py_mode.specs.Plan.{built_in_plan}
 use Rattle.py_plain_text.specs.TextFile.{TextFile}
 use Rattle.py_text_session.specs.Opening.{text_opened}
 use Rattle.py_open.specs.Session.{SessionFile, OfText, OfBinary, SessionView, raw_of, bytes_in}
@@ -91,7 +94,7 @@ pub record PrintsReplies (path mode : List ℕ) (args : OpenArgs) (old new : Sou
   pub calls : List Call
   pub reads : IsTrue old.tells → ReadsScript old calls new
   pub plan : OpenPlan
-  pub planned : plan_of mode args ≡ Ok plan
+  pub planned : built_in_plan mode args ≡ Ok plan
   pub raw : Raw
   pub is_opened : IsOpened (raw_mode plan) raw
   pub begins : IsTrue before.opener.tells → BeginsWith raw (opened_bytes (raw_mode plan) (before.opener.holds path))
@@ -107,28 +110,38 @@ pub record PrintsReplies (path mode : List ℕ) (args : OpenArgs) (old new : Sou
 
 -- the words ask for an opening that the plan refuses
 abbrev pub IsRefusedPlan : Option Command → Type 0
-IsRefusedPlan (Some (Run path mode args)) = IsErr (plan_of mode args)
-IsRefusedPlan command = ⊥
+IsRefusedPlan (Some (Run path mode args)) = IsErr (built_in_plan mode args)
+IsRefusedPlan (Some Help) = ⊥
+IsRefusedPlan (Some Version) = ⊥
+IsRefusedPlan None = ⊥
 
 -- the words ask for an opening of this path that the plan accepts
 abbrev pub IsAcceptedAt : List ℕ → OpenPlan → Option Command → Type 0
-IsAcceptedAt path plan (Some (Run named mode args)) = (named ≡ path) × (plan_of mode args ≡ Ok plan)
-IsAcceptedAt path plan command = ⊥
+IsAcceptedAt path plan (Some (Run named mode args)) = (named ≡ path) × (built_in_plan mode args ≡ Ok plan)
+IsAcceptedAt path plan (Some Help) = ⊥
+IsAcceptedAt path plan (Some Version) = ⊥
+IsAcceptedAt path plan None = ⊥
 
 -- the words ask for a run
 abbrev pub AsksForRun : Option Command → Type 0
 AsksForRun (Some (Run path mode args)) = Unit {0}
-AsksForRun command = ⊥
+AsksForRun (Some Help) = ⊥
+AsksForRun (Some Version) = ⊥
+AsksForRun None = ⊥
 
 -- the words ask for a run that only reads
 abbrev pub AsksToRead : Option Command → Type 0
-AsksToRead (Some (Run path mode args)) = (plan : OpenPlan) × (plan_of mode args ≡ Ok plan) × (access_of plan.mode ≡ access.Read)
-AsksToRead command = ⊥
+AsksToRead (Some (Run path mode args)) = (plan : OpenPlan) × (built_in_plan mode args ≡ Ok plan) × (access_of plan.mode ≡ access.Read)
+AsksToRead (Some Help) = ⊥
+AsksToRead (Some Version) = ⊥
+AsksToRead None = ⊥
 
 -- the words ask for a stream that moves its raw
 abbrev pub AsksToMove : Option Command → Type 0
-AsksToMove (Some (Run path mode args)) = (plan : OpenPlan) × (plan_of mode args ≡ Ok plan) × MovesRaw plan
-AsksToMove command = ⊥
+AsksToMove (Some (Run path mode args)) = (plan : OpenPlan) × (built_in_plan mode args ≡ Ok plan) × MovesRaw plan
+AsksToMove (Some Help) = ⊥
+AsksToMove (Some Version) = ⊥
+AsksToMove None = ⊥
 
 -- the words ask for a stream that moves its raw, and the opener may have opened one that can't seek, as it doesn't tell
 abbrev pub MayNotMove : OpenerView → Option Command → Type 0
@@ -141,7 +154,9 @@ LeavesPaths code command = (code ≡ 2) ⊎ ((code ≡ 3) ⊎ ((code ≡ 5) ⊎ 
 -- every path but the one that the words name holds what it held
 abbrev pub KeepsOthers : Option Command → OpenerView → OpenerView → Type 0
 KeepsOthers (Some (Run path mode args)) old new = OthersHoldTheSame path old new
-KeepsOthers command old new = HoldsTheSame old new
+KeepsOthers (Some Help) old new = HoldsTheSame old new
+KeepsOthers (Some Version) old new = HoldsTheSame old new
+KeepsOthers None old new = HoldsTheSame old new
 
 -- Runs in which nothing went wrong.
 
@@ -149,24 +164,29 @@ KeepsOthers command old new = HoldsTheSame old new
 abbrev pub begins_with : Bool → List ℕ → ℕ
 begins_with appends bytes = if appends then length bytes else 0
 
--- the text that a plan opens over bytes
-abbrev pub text_by : OpenPlan → List ℕ → TextFile
-text_by plan bytes = text_opened bytes (begins_with (can_of (access_of plan.mode) true).appending bytes) (can_of (access_of plan.mode) true) (text_settings plan)
+-- the text that is opened over bytes by a mode
+abbrev pub text_by : Mode → TextPlan → List ℕ → TextFile
+text_by mode text bytes = text_opened bytes (begins_with (can_of (access_of mode) true).appending bytes) (can_of (access_of mode) true) (text_settings text)
 
--- the flat file of a session over bytes, by whether it is of a text or of bytes
-abbrev pub file_by : EncodeMode → OpenPlan → List ℕ → SessionFile
-file_by Text plan bytes = OfText (text_by plan bytes)
-file_by Bytes plan bytes = OfBinary (record {
+-- the stream of bytes that is opened over bytes by a mode, with a buffer or without
+abbrev pub bytes_by : Mode → (buffer : Option ℕ) → List ℕ → FlatFile
+bytes_by mode buffer bytes = record {
   bytes = bytes;
-  place = begins_with (can_of (access_of plan.mode) true).appending bytes;
-  can = can_of (access_of plan.mode) true;
-  buffering = buffering_of plan.buffer_size;
+  place = begins_with (can_of (access_of mode) true).appending bytes;
+  can = can_of (access_of mode) true;
+  buffering = buffering_of buffer;
   life = life.Live;
-})
+}
+
+-- the flat file of a session over bytes, by what is planned
+abbrev pub file_by : PlanKind → Mode → List ℕ → SessionFile
+file_by (kind.Text text) mode bytes = OfText (text_by mode text bytes)
+file_by (kind.Buffered size) mode bytes = OfBinary (bytes_by mode (Some size) bytes)
+file_by kind.Bare mode bytes = OfBinary (bytes_by mode None bytes)
 
 -- the flat file that a plan opens over bytes
 abbrev pub opened_file : OpenPlan → List ℕ → SessionFile
-opened_file plan bytes = file_by plan.mode.encode plan bytes
+opened_file plan bytes = file_by plan.kind plan.mode bytes
 
 -- replies settle on the file that a plan opens over bytes, from there to a last file, of which the path holds the bytes in the end
 pub record SettlesAtPath (path : List ℕ) (plan : OpenPlan) (bytes : List ℕ) (calls : List Call) (replies : List Reply) (after : OpenerView) : Type 0 where
@@ -186,13 +206,13 @@ pub record PrintsSettled (path : List ℕ) (plan : OpenPlan) (old : SourceView) 
 -- what was printed is the lines of replies to the script's calls and a Close; unless one says out of memory, they are the exact ones
 -- of the text that the mode opens of what the path held, and the path holds the bytes of the text that they come to. Of a text that is
 -- only read it holds what it held
-pub record PrintsExactly (path : List ℕ) (plan : OpenPlan) (old : SourceView) (before after : Outside) : Type 0 where
+pub record PrintsExactly (path : List ℕ) (plan : OpenPlan) (text : TextPlan) (old : SourceView) (before after : Outside) : Type 0 where
   pub calls : List Call
   pub form : script_calls old.left ≡ Some calls
   pub replies : List Reply
   pub prints : Prints before.sink (reply_lines replies) after.sink
-  pub says : NoneLacksMemory (all_said replies) → all_said replies ≡ exact_replies (text_by plan (opened_bytes (raw_mode plan) (before.opener.holds path))) (closed_calls calls)
-  pub holds : NoneLacksMemory (all_said replies) → after.opener.holds path ≡ Some (exact_after (text_by plan (opened_bytes (raw_mode plan) (before.opener.holds path))) (closed_calls calls)).bytes
+  pub says : NoneLacksMemory (all_said replies) → all_said replies ≡ exact_replies (text_by plan.mode text (opened_bytes (raw_mode plan) (before.opener.holds path))) (closed_calls calls)
+  pub holds : NoneLacksMemory (all_said replies) → after.opener.holds path ≡ Some (exact_after (text_by plan.mode text (opened_bytes (raw_mode plan) (before.opener.holds path))) (closed_calls calls)).bytes
   pub kept : access_of plan.mode ≡ access.Read → (bytes : List ℕ) → before.opener.holds path ≡ Some bytes → after.opener.holds path ≡ Some bytes
 
 -- the source tells a script that is well formed, and has these calls
@@ -246,7 +266,7 @@ pub record Promises (code : ℕ) (asked : Option Command) (old new : SourceView)
   pub others : TellsPaths before.opener → KeepsOthers asked before.opener after.opener
   pub left : (path : List ℕ) (plan : OpenPlan) → IsAcceptedAt path plan asked → code ≡ 4 → TellsPaths before.opener
       → after.opener.holds path ≡ Some (opened_bytes (raw_mode plan) (before.opener.holds path))
-  pub smooth : (path mode : List ℕ) (args : OpenArgs) (plan : OpenPlan) (calls : List Call) → asked ≡ Some (Run path mode args) → plan_of mode args ≡ Ok plan → TellsCalls old calls → TellsPaths before.opener
+  pub smooth : (path mode : List ℕ) (args : OpenArgs) (plan : OpenPlan) (calls : List Call) → asked ≡ Some (Run path mode args) → built_in_plan mode args ≡ Ok plan → TellsCalls old calls → TellsPaths before.opener
       → IsSmoothOutside old new before after → code ≢ 7 → DoesAsTheModel code path plan calls before after
   pub printed : (path mode : List ℕ) (args : OpenArgs) → code ≡ 0 → asked ≡ Some (Run path mode args) → PrintsReplies path mode args old new before after
   pub help : code ≡ 0 → asked ≡ Some Help → Prints before.sink help_text after.sink

@@ -28,7 +28,7 @@ use Rattle.py_program.specs.declared.status.Status.TheVariants as status
 use Rattle.py_flat.specs.declared.fault.IoFault.{IoFault}
 use Rattle.py_mode.specs.declared.open_args.OpenArgs.{OpenArgs}
 use Rattle.py_mode.specs.declared.plan.OpenPlan.{OpenPlan}
-use Rattle.py_mode.specs.Plan.{plan_of}
+use Rattle.py_mode.specs.Plan.{built_in_plan, buffer_of}
 use Rattle.py_raw.specs.declared.opener.OpenError.{OpenError}
 use Rattle.py_raw.specs.declared.opener.OpenError.TheVariants as open_error
 use Rattle.py_program.specs.Status.{code_of}
@@ -72,7 +72,7 @@ pub record RanCalls (raw : Raw) (asked : Asked) (back : Raw) (lines : List ℕ) 
 
 -- a stream that is read and written through a buffer moves its raw
 abbrev pub MovesRaw : OpenPlan → Type 0
-MovesRaw plan = (access_of plan.mode ≡ access.Update) × IsSome plan.buffer_size
+MovesRaw plan = (access_of plan.mode ≡ access.Update) × IsSome (buffer_of plan.kind)
 
 -- why no session is opened over a raw: it failed to say where it stands or ends, or to move there; or it can't seek, and is to be moved
 abbrev pub RefusesOpened : Raw → OpenPlan → IoFault → Raw → Type 0
@@ -168,19 +168,23 @@ RefusalPrinted refused _ old new = ⊥
 -- the plan refuses the opening: nothing was opened
 pub record RefusesPlan (mode : List ℕ) (args : OpenArgs) (ended : Status) (before after : Outside) : Type 0 where
   pub refused : IoFault
-  pub planned : plan_of mode args ≡ Err refused
+  pub planned : built_in_plan mode args ≡ Err refused
   pub opener : after.opener ≡ before.opener
   pub prints : RefusalPrinted refused ended before.sink after.sink
 
 -- the plan accepts the opening: what it asks of a raw was done
 pub record FollowsPlan (path mode : List ℕ) (args : OpenArgs) (calls : List Call) (ended : Status) (before after : Outside) : Type 0 where
   pub plan : OpenPlan
-  pub planned : plan_of mode args ≡ Ok plan
+  pub planned : built_in_plan mode args ≡ Ok plan
   pub does : CallsOutcome path (asked_by plan calls) ended before after
 
 -- what came of the script's calls, by whether the plan refuses the opening or accepts it
 abbrev pub PlannedOutcome : List ℕ → List ℕ → OpenArgs → List Call → Status → Outside → Outside → Type 0
 PlannedOutcome path mode args calls ended before after = RefusesPlan mode args ended before after ⊎ FollowsPlan path mode args calls ended before after
+
+-- there was no memory for the registry, or to look for a name in it: nothing was called
+abbrev pub LacksPlan : Status → Outside → Outside → Type 0
+LacksPlan ended before after = (ended ≡ status.NoMemory) × (after ≡ before)
 
 -- The whole program.
 

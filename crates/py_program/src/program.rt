@@ -1,13 +1,13 @@
 //! The program: from its words to the lines that it prints and the status that it ends with.
-ghost use Rattle.std.specs.Prelude.{◌≡◌, ◌≢◌, Ok, MatchResult};
+ghost use Rattle.std.specs.Prelude.{◌≡◌, ◌≢◌, ◌⊎◌, Ok, Err, IfOk, IfErr, MatchResult};
 ghost use Rattle.py_source_sink.specs.Source.{NoSourceFault};
 ghost use Rattle.py_source_sink.specs.Sink.{SinkKeeps, NoSinkFault};
 ghost use Rattle.py_raw.specs.Opener.{IsOpened, NoOpenerFault};
 ghost use Rattle.py_stream.specs.Opening.{StandsAtStart};
-ghost use Rattle.py_mode.specs.declared.plan.OpenPlan.{OpenPlan as Plan};
-ghost use Rattle.py_mode.specs.Plan.{plan_of};
+ghost use Rattle.py_flat.specs.declared.fault.IoFault.TheVariants as fault;
+ghost use Rattle.py_mode.specs.Plan.{built_in_plan, IsPlanned};
 ghost use Rattle.py_program.specs.Outside.{texts};
-ghost use Rattle.py_program.specs.Outcome.{raw_mode, asked_by, asked_in, outside, RawOutcome, PlannedOutcome, Outcome, Ends, after_done};
+ghost use Rattle.py_program.specs.Outcome.{raw_mode, asked_by, asked_in, outside, RawOutcome, PlannedOutcome, LacksPlan, Outcome, Ends, after_done};
 ghost use Rattle.py_program.specs.Meaning.{Promises};
 
 use crate::laws::{a_smooth_run_prints_the_exact_replies, a_smooth_run_prints_what_settles};
@@ -16,10 +16,11 @@ use crate::script::read_script;
 use crate::status::Status;
 use py_flat::IoFault;
 use py_open::{
-    Call, OpenArgs, OpenRefused, Run, a_smooth_run_is_complete, an_ended_session_calls_no_raw,
-    plan_open, run_session, what_is_passed_on_is_in_the_raw,
+    Call, OpenArgs, OpenPlan, OpenRefused, Run, a_smooth_run_is_complete,
+    an_ended_session_calls_no_raw, plan_open, run_planned, what_is_passed_on_is_in_the_raw,
 };
 use py_raw::{OpenError, Opener, RawStream, Sink, Source};
+use py_registry::{CodecsRegistry, NoHandler, NoSearch};
 use py_script::{Command, help_text, parse_words, version_text};
 use std::alloc::Global;
 
@@ -27,6 +28,8 @@ use std::alloc::Global;
 ///
 /// `words` are those of the command line without the program's own name. It answers the status that the program ends
 /// with (docs/PROGRAM.md); the first stop that applies decides. A raw that was opened is always put away again.
+///
+/// The opening is planned by a new registry, in which only what is built in has a name: the five encodings, and the seven handlers.
 ///
 /// `ends` says all that was read, opened, printed and put away, by the status. What follows from it `promises` says, field by
 /// field of `Promises`:
@@ -108,8 +111,18 @@ fn run_to_status<O: Opener, I: Source, K: Sink>(
     }
 }
 
+/// The plan of a mode and arguments, by a new registry, in which only what is built in has a name; or `NoMemory`.
+fn built_in_plan(alloc: Global, mode: &str, args: &OpenArgs) -> Result<OpenPlan, IoFault>
+    ensures planned { IfOk result (λ plan. built_in_plan mode.now args.now ≡ Ok plan) }
+    ensures may_open { IfOk result (λ plan. IsPlanned plan) }
+    ensures refused { IfErr result (λ why. why ≢ fault.NoMemory → built_in_plan mode.now args.now ≡ Err why) }
+{
+    let mut registry = CodecsRegistry::<NoSearch, NoHandler>::new(alloc)?;
+    plan_open(&mut registry, alloc, mode, args)
+}
+
 /// Opens the path, makes the calls and a Close, prints the replies, and puts the raw away; or prints why the plan refuses
-/// the opening, and opens nothing.
+/// the opening, and opens nothing. Where there is no memory to plan with, nothing is called.
 fn run_calls<O: Opener, K: Sink>(
     alloc: Global,
     path: &str,
@@ -120,18 +133,20 @@ fn run_calls<O: Opener, K: Sink>(
     out: &mut K,
 ) -> Status
     ensures sink { SinkKeeps (K.shows out.old) (K.shows out.new) }
-    ensures outcome { PlannedOutcome path.now mode.now args calls.items result
-        (outside O.shows K.shows opener.old out.old) (outside O.shows K.shows opener.new out.new) }
+    ensures outcome { LacksPlan result (outside O.shows K.shows opener.old out.old) (outside O.shows K.shows opener.new out.new)
+        ⊎ PlannedOutcome path.now mode.now args calls.items result
+            (outside O.shows K.shows opener.old out.old) (outside O.shows K.shows opener.new out.new) }
     ensures exact { result ≢ Status.SinkFailed → NoSinkFault (K.shows out.old) (K.shows out.new) }
     ensures opener { result ≡ Status.Done → NoOpenerFault (O.shows opener.old) (O.shows opener.new) }
 {
-    let plan = match plan_open(mode, &args) {
+    let plan = match built_in_plan(alloc, mode, &args) {
         Ok(plan) => plan,
+        Err(IoFault::NoMemory) => return Status::NoMemory,
         Err(fault) => return status_of(print_refused(alloc, out, fault), Status::Refused),
     };
     match opener.open_raw(alloc, path, plan.mode.rawmode()) {
         Ok(raw) => {
-            let (status, raw) = run_raw(alloc, raw, mode, args, calls, out);
+            let (status, raw) = run_raw(alloc, raw, plan, calls, out);
             put_away(status, opener.done(path, raw))
         }
         Err(OpenError::Fault) => Status::OpenerFailed,
@@ -154,23 +169,22 @@ fn put_away(status: Status, done: Result<(), OpenError>) -> Status
 fn run_raw<R: RawStream, K: Sink>(
     alloc: Global,
     raw: R,
-    mode: &str,
-    args: OpenArgs,
+    plan: OpenPlan,
     calls: Vec<Call>,
     out: &mut K,
 ) -> (Status, R)
-    requires opened { (plan : Plan) → plan_of mode.now args ≡ Ok plan → IsOpened (raw_mode plan) (R.shows raw) }
+    requires planned { IsPlanned plan }
+    requires opened { IsOpened (raw_mode plan) (R.shows raw) }
     requires start { StandsAtStart (R.shows raw) }
     ensures sink { SinkKeeps (K.shows out.old) (K.shows out.new) }
-    ensures outcome { (plan : Plan) → plan_of mode.now args ≡ Ok plan
-        → RawOutcome (R.shows raw) (asked_by plan calls.items) result.0 (R.shows result.1) (K.shows out.old) (K.shows out.new) }
+    ensures outcome { RawOutcome (R.shows raw) (asked_by plan calls.items) result.0 (R.shows result.1) (K.shows out.old) (K.shows out.new) }
     ensures exact { result.0 ≢ Status.SinkFailed → NoSinkFault (K.shows out.old) (K.shows out.new) }
 {
     let mut calls = calls;
     if calls.push(Call::Close).is_err() {
         return (Status::NoMemory, raw);
     }
-    match run_session(alloc, raw, mode, args, &calls) {
+    match run_planned(alloc, raw, plan, &calls) {
         Ok(Run { session, replies }) => {
             let status = status_of(print_replies(alloc, out, &replies), Status::Done);
             (status, session.finish().raw)

@@ -5,7 +5,7 @@ use Rattle.py_source_sink.specs.Source.{SourceView}
 use Rattle.py_program.specs.Outside.{texts, IsMalformed}
 use Rattle.py_program.specs.Outcome.{Outside, asked_in, Ends}
 use Rattle.py_program.specs.Meaning.{IsRefusedPlan, MayNotMove, NothingFails}
-use Rattle.py_program.proofs.Ending.{paths_kept, others_kept, path_left_by, refused_by_cause, path_missed}
+use Rattle.py_program.proofs.Ending.{paths_kept, others_kept, path_left_by, refused_by_cause, path_missed, path_found}
 use Rattle.py_program.proofs.Exact.{prints_replies}
 use Rattle.py_program.proofs.Smooth.{does_as_model}
 use Rattle.py_program.proofs.Counting.{all_counts, opens_one, opens_none}
@@ -42,7 +42,7 @@ returns-clause-promises g c =
       malformed_script = malformed;
       script = first_of (search rules, grind (arith, common_steps));
       missing = λ path plan accepted is tells. path_missed (texts c.args.words.now) old new before after path plan (subst (λ (code : ℕ). Ends code (texts c.args.words.now) old new before after) is ends) accepted tells;
-      found = first_of (search rules, grind (arith, common_steps));
+      found = λ path plan accepted well tells missed. path_found c.code.result (texts c.args.words.now) old new before after path plan ends accepted well tells missed;
       kept = paths_kept c.code.result (texts c.args.words.now) old new before after ends;
       others = others_kept c.code.result (texts c.args.words.now) old new before after ends;
       left = λ path plan accepted is tells. path_left_by (texts c.args.words.now) old new before after path plan (subst (λ (code : ℕ). Ends code (texts c.args.words.now) old new before after) is ends) accepted tells;

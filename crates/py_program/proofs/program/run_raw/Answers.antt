@@ -5,11 +5,11 @@ use Rattle.py_source_sink.specs.Sink.{SinkView}
 use Rattle.py_calls.specs.declared.call.Call.{Call}
 use Rattle.py_calls.specs.declared.call.Call.TheVariants.{Close}
 use Rattle.py_calls.specs.declared.reply.Reply.{Reply}
+use Rattle.py_mode.specs.declared.plan.OpenPlan.{OpenPlan}
 use Rattle.py_open.specs.Run.{RunsCalls}
 use Rattle.py_script.specs.ReplyLine.{reply_lines}
 use Rattle.py_program.specs.Outside.{PrintOutcome}
 use Rattle.py_program.specs.Outcome.{closed_calls, asked_by}
-use Rattle.py_program.proofs.Planned.{run_by, refused_raw}
 use Rattle.py_program.proofs.OverRaw.{replies_printed, refused_printed}
 use Rattle.py_program.proofs.program.run_raw.Goals as goal
 
@@ -18,23 +18,23 @@ calls_closed : (calls pushed lent : List Call) (fits : Bool) → fits ≡ true �
 calls_closed calls pushed lent fits is made same = same ∙ made ∙ ap (λ (yes : Bool). if yes then calls ++ Close ∷ [] else calls) is
 
 pub returns-in-Ok-clause-outcome : goal.returns-in-Ok-clause-outcome
-returns-in-Ok-clause-outcome g c = λ plan accepted.
+returns-in-Ok-clause-outcome g c =
+    let plan : OpenPlan = c.args.plan in
     let raw : Raw = g.R.RawStream.shows c.args.raw in
     let old : SinkView = g.K.Sink.shows c.args.out.now in
     let new : SinkView = g.K.Sink.shows c.print_replies.new.out in
     let session = c.in-Ok.field-0.session in
     let replies : List Reply = c.in-Ok.field-0.replies.items in
     let calls_are : c.deref.result.now ≡ closed_calls c.args.calls.items = calls_closed c.args.calls.items c.push.new.self.items c.deref.result.now (is_ok c.push.result) c.if-is_err.ensures.negation c.push.ensures.items c.deref.ensures.value in
-    let ran = c.in-Ok.ensures in
-    let planned : RunsCalls raw plan c.deref.result.now session replies = run_by raw c.args.mode.now c.args.args ran.0 plan c.deref.result.now session replies ran.1 accepted ran.2 in
+    let planned : RunsCalls raw plan c.deref.result.now session replies = c.in-Ok.ensures in
     replies_printed raw (asked_by plan c.args.calls.items) session (g.R.RawStream.shows c.finish.result.raw) replies old new c.print_replies.result c.status_of-status.result
     (subst (λ (calls : List Call). RunsCalls raw plan calls session replies) calls_are planned) c.finish.ensures.raw
     (subst (λ (printed : List Reply). PrintOutcome old (reply_lines printed) c.print_replies.result new) c.deref-in-Ok.ensures.value c.print_replies.ensures.outcome) c.status_of-status.ensures
 
 pub returns-clause-outcome : goal.returns-clause-outcome
-returns-clause-outcome g c = λ plan accepted.
+returns-clause-outcome g c =
     let raw : Raw = g.R.RawStream.shows c.args.raw in
     let back : Raw = g.R.RawStream.shows c.in-Err.field-0.raw in
     let refused : IoFault = c.in-Err.field-0.fault in
-    refused_printed raw back c.args.mode.now c.args.args (asked_by plan c.args.calls.items) refused (g.K.Sink.shows c.args.out.now) (g.K.Sink.shows c.print_refused.new.out) c.print_refused.result c.status_of-status-in_default.result
-    accepted (c.requires.opened plan accepted) (refused_raw raw c.args.mode.now c.args.args plan refused back accepted c.in-Err.ensures) c.in_default.not-NoMemory c.print_refused.ensures.outcome c.status_of-status-in_default.ensures
+    refused_printed raw back (asked_by c.args.plan c.args.calls.items) refused (g.K.Sink.shows c.args.out.now) (g.K.Sink.shows c.print_refused.new.out) c.print_refused.result c.status_of-status-in_default.result
+    c.requires.planned c.requires.opened c.in-Err.ensures c.in_default.not-NoMemory c.print_refused.ensures.outcome c.status_of-status-in_default.ensures

@@ -6,13 +6,14 @@ use Rattle.py_flat.specs.declared.fault.IoFault.TheVariants as fault
 use Rattle.py_flat.specs.Refusals.{or_else, refused_if}
 use Rattle.py_raw.specs.RawStream.{Raw}
 use Rattle.py_stream.specs.Opening.{holds_none, RefusesRaw}
-use Rattle.py_stream.specs.Access.{can_of, is_able}
+use Rattle.py_stream.specs.Access.{can_of}
+use Rattle.py_mode.specs.Plan.{buffer_of}
 use Rattle.py_calls.specs.declared.call.Call.{Call}
 use Rattle.py_calls.specs.declared.reply.Reply.{Reply}
-use Rattle.py_open.specs.Opening.{access_of}
+use Rattle.py_open.specs.Opening.{access_of, suits_plan}
 use Rattle.py_open.specs.Run.{IsRun}
 use Rattle.py_open.proofs.Running.{run_on}
-use Rattle.py_open.proofs.run.run_opened.Goals as goal
+use Rattle.py_open.proofs.run.run_planned.Goals as goal
 
 by_tests : (able : Raw → Bool) (appends : Bool) (raw : Raw) (buffer : Option ℕ) (why : IoFault) (closed may : Bool) → raw.closed ≡ closed → able raw ≡ may → or_else (refused_if closed fault.Closed) (or_else (refused_if (not may) fault.Unsupported) (refused_if (holds_none buffer) fault.BadArgument)) ≡ Some why → RefusesRaw able appends raw buffer why raw
 by_tests able appends raw buffer why true may shut can by =
@@ -30,8 +31,8 @@ by_tests able appends raw buffer why false true shut can by = let never : None �
 pub returns-in-Some : goal.returns-in-Some
 returns-in-Some g c =
     let raw : Raw = g.R.RawStream.shows c.args.raw in
-    let able : Raw → Bool = is_able (access_of c.args.plan.mode) c.args.plan.buffer_size in
-    by_tests able (can_of (access_of c.args.plan.mode) raw.seekable).appending raw c.args.plan.buffer_size c.in-Some.fault raw.closed (able raw) refl refl (sym c.raw_refusal.ensures ∙ c.in-Some.is)
+    let able : Raw → Bool = suits_plan c.args.plan in
+    by_tests able (can_of (access_of c.args.plan.mode) raw.seekable).appending raw (buffer_of c.args.plan.kind) c.in-Some.fault raw.closed (able raw) refl refl (sym c.raw_refusal.ensures ∙ c.in-Some.is)
 
 pub loop-call-preserved : goal.loop-call-preserved
 loop-call-preserved g c =

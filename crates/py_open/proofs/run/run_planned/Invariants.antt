@@ -1,6 +1,6 @@
 use Rattle.std.proofs.Common.{◌+◌, ◌-◌, ◌≤◌, length, take, vec_len, vec_capacity}
 use Rattle.py_open.specs.Run.{RunsCalls}
-use Rattle.py_open.proofs.run.run_opened.Given as goal
+use Rattle.py_open.proofs.run.run_planned.Given as goal
 
 -- the replies so far are those of a run of the calls so far, and there is room for the others
 abbrev pub invariant-loop-call : goal.invariant-loop-call
