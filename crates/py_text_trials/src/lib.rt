@@ -1,17 +1,21 @@
-//! What programs share that try texts: the words of cases, raw streams that move by a plan, and what a reading answers beside the
-//! plain text. Nothing here is clever: it is code to be read and trusted, and only its safety is proved.
+//! What programs share that try texts: the words of cases, raw streams that move by a plan, what a reading answers beside the
+//! plain text, and texts and sessions that are taken apart. Nothing here is clever: it is code to be read and trusted, and only its safety is proved.
 #![tactic(auto)]
 
+mod apart;
 mod asking;
 mod beside;
 mod raws;
 mod samples;
 mod shown;
+mod tried;
 mod words;
 
+pub use apart::{Apart, Held, Under, take_text_apart};
 pub use asking::Asking;
 pub use beside::{Came, came_of};
 pub use raws::{failing, raw_of, steps};
 pub use samples::{ENCODINGS, HANDLERS, RULES};
 pub use shown::{push_answer, push_fault};
+pub use tried::Tried;
 pub use words::{coder, faults_of, plan_of, rule, split};

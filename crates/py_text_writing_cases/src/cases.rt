@@ -3,7 +3,6 @@ ghost use Rattle.std.specs.Prelude.{IfOk};
 ghost use Rattle.py_raw_memory.specs.MemRaw.{shown as raw_shown};
 ghost use Rattle.py_stream.specs.Opening.{StandsAtStart};
 
-use crate::apart::{Apart, Under, take_text_apart};
 use crate::calls::calls;
 use anyhow::{Result, anyhow};
 use py_buffered::{BufferedRandom, BufferedReader, BufferedWriter};
@@ -13,7 +12,9 @@ use py_raw::RawFlags;
 use py_raw_memory::MemRaw;
 use py_stream::{NewRefused, Whence};
 use py_text::{Coder, TextSettings};
-use py_text_trials::{coder, faults_of, plan_of, push_fault, raw_of, rule, split};
+use py_text_trials::{
+    Apart, Under, coder, faults_of, plan_of, push_fault, raw_of, rule, split, take_text_apart,
+};
 use py_textio::TextIOWrapper;
 use std::alloc::{AllocError, Global};
 

@@ -1,10 +1,9 @@
 //! What a text is compared with: the plain slow text, and its bytes as a list.
-use crate::apart::Apart;
 use crate::pieces::Piece;
 use py_flat::IoFault;
 use py_plain::encode;
 use py_plain_text::{PlainSettings, PlainText, laid, written};
-use py_text_trials::{Asking, Came, came_of};
+use py_text_trials::{Apart, Asking, Came, came_of};
 use std::alloc::{AllocError, Global};
 use std::mem;
 

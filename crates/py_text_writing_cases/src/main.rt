@@ -6,14 +6,12 @@
 //! Nothing here is clever: it is code to be read and trusted, and only its safety is proved.
 #![tactic(auto)]
 
-mod apart;
 mod calls;
 mod cases;
 mod flat;
 mod pieces;
 mod runs;
 mod sweep;
-mod tried;
 mod writing;
 
 use anyhow::Result;

@@ -3,11 +3,9 @@ ghost use Rattle.std.specs.Prelude.{IfOk};
 ghost use Rattle.py_raw_memory.specs.MemRaw.{shown as raw_shown};
 ghost use Rattle.py_stream.specs.Opening.{StandsAtStart};
 
-use crate::apart::Apart;
 use crate::flat::Flat;
 use crate::pieces::{Piece, SAMPLES, pieces_of};
 use crate::runs::{End, Over, Run, Sweep};
-use crate::tried::Tried;
 use crate::writing::{Counts, finish, is_ended, write_all};
 use anyhow::{Result, anyhow};
 use py_buffered::{BufferedRandom, BufferedWriter};
@@ -19,7 +17,7 @@ use py_raw_memory::MemRaw;
 use py_stream::NewRefused;
 use py_text::{Coder, TextSettings};
 use py_text_session::{Access, TextSession};
-use py_text_trials::{Came, ENCODINGS, HANDLERS, RULES, failing, raw_of, steps};
+use py_text_trials::{Apart, Came, ENCODINGS, HANDLERS, RULES, Tried, failing, raw_of, steps};
 use py_textio::TextIOWrapper;
 use std::alloc::{AllocError, Global};
 

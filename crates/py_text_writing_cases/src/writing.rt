@@ -2,9 +2,8 @@
 use crate::flat::Flat;
 use crate::pieces::Piece;
 use crate::runs::{End, Run};
-use crate::tried::Tried;
 use py_flat::IoFault;
-use py_text_trials::{Asking, Came};
+use py_text_trials::{Asking, Came, Tried};
 use std::alloc::Global;
 
 /// What came of texts.

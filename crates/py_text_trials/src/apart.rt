@@ -11,7 +11,7 @@ use std::alloc::{AllocError, Global};
 
 /// What a stream under a text comes to.
 #[derive(Debug, Drop)]
-pub(crate) struct Held {
+pub struct Held {
     /// The bytes of the raw, or of a stream in memory; none of a stream that hands nothing out.
     pub raw: Option<Vec<u8>>,
     pub is_closed: bool,
@@ -22,7 +22,7 @@ pub(crate) struct Held {
 
 /// What a text and the stream under it come to.
 #[derive(Debug, Drop)]
-pub(crate) struct Apart {
+pub struct Apart {
     pub held: Held,
     /// The bytes that the text owes the stream, and where they begin.
     pub unwritten: Vec<u8>,
@@ -30,7 +30,7 @@ pub(crate) struct Apart {
 }
 
 /// A stream that a text is tried over.
-pub(crate) trait Under: BufferedStream + Drop {
+pub trait Under: BufferedStream + Drop {
     /// What it comes to.
     fn take_apart(self, alloc: Global) -> Result<Held, AllocError>;
 }
@@ -88,7 +88,7 @@ impl Under for BytesIO {
 }
 
 /// Takes a text apart, and the stream under it.
-pub(crate) fn take_text_apart<B: Under>(
+pub fn take_text_apart<B: Under>(
     alloc: Global,
     text: TextIOWrapper<B>,
 ) -> Result<Apart, AllocError> {

@@ -1,26 +1,32 @@
 //! What is tried: a text over a stream, or a session of a text over a raw.
 use crate::apart::{Apart, Held, Under, take_text_apart};
+use crate::asking::Asking;
 use py_flat::{Chars, IoFault};
 use py_raw::RawStream;
 use py_raw_memory::MemRaw;
 use py_stream::Detached;
 use py_text_session::TextSession;
-use py_text_trials::Asking;
 use py_textio::TextIOWrapper;
 use std::alloc::{AllocError, Global};
 
 /// A text that is written and read.
-pub(crate) trait Tried: Drop {
+pub trait Tried: Drop {
+    /// Writes a text, and answers how many characters it has.
     fn write(&mut self, alloc: Global, text: &str) -> Result<usize, IoFault>;
 
+    /// Reads what is asked for.
     fn ask(&mut self, alloc: Global, asking: Asking) -> Result<Option<String>, IoFault>;
 
+    /// Passes on all that was written.
     fn flush(&mut self) -> Result<(), IoFault>;
 
+    /// Closes it.
     fn close(&mut self) -> Result<(), IoFault>;
 
+    /// Whether it is closed.
     fn is_closed(&self) -> bool;
 
+    /// Whether a wait cut its last call short.
     fn is_short(&self) -> bool;
 
     /// What it comes to, taken apart.
