@@ -108,8 +108,12 @@ text_refused_by file call current why is asks passes fails = rw (asks, is, passe
 -- What every call keeps.
 
 -- the settings that a text has after a call
-settings_stay : (call : TextFileCall) (reply : FileReply) (settings : TextSettings) → over.settings_after call reply settings ≡ record settings { chunk_size = (over.settings_after call reply settings).chunk_size }
-settings_stay call reply settings = grind arith
+size_stays : (size : ℕ) (reply : FileReply) (settings : TextSettings) → over.settings_after (text.SetChunkSize size) reply settings ≡ record settings { chunk_size = (over.settings_after (text.SetChunkSize size) reply settings).chunk_size }
+size_stays size reply settings = grind arith
+
+settings_stay : (call : Call) (reply : FileReply) (settings : TextSettings) → over.settings_after (text_call call) reply settings ≡ record settings { chunk_size = (over.settings_after (text_call call) reply settings).chunk_size }
+settings_stay (call.SetChunkSize size) reply settings = size_stays size reply settings
+settings_stay call reply settings = refl
 
 chunk_stays : (call : Call) (reply : FileReply) (settings : TextSettings) → sets_chunk call ≡ false → over.settings_after (text_call call) reply settings ≡ settings
 chunk_stays (call.SetChunkSize size) reply settings is = absurd (cc)
@@ -117,7 +121,7 @@ chunk_stays call reply settings is = refl
 
 text_settings_keep : (before : TextSettings) (call : Call) (reply : FileReply) (after : TextSettings) → after ≡ over.settings_after (text_call call) reply before → KeepsText before (call ∷ []) after
 text_settings_keep before call reply after is = record {
-  others = subst (λ (settings : TextSettings). settings ≡ record before { chunk_size = settings.chunk_size }) (sym is) (settings_stay (text_call call) reply before);
+  others = subst (λ (settings : TextSettings). settings ≡ record before { chunk_size = settings.chunk_size }) (sym is) (settings_stay call reply before);
   chunk = λ none. ap (λ (settings : TextSettings). settings.chunk_size) (is ∙ chunk_stays call reply before none.0);
 }
 

@@ -26,6 +26,7 @@ fn main(rt: HostRuntime) -> Result<()> {
     print(&rt, reading::characters_and_lines(alloc))?;
     print(&rt, reading::counted(alloc))?;
     print(&rt, stopping::bad_bytes(alloc))?;
+    print(&rt, stopping::other_settings(alloc))?;
     print(&rt, stopping::waits(alloc))?;
     print(&rt, stopping::fails(alloc))?;
     print(&rt, stopping::closed(alloc))?;

@@ -4,6 +4,7 @@ use crate::shown::characters;
 use anyhow::Result;
 use py_flat::IoFault;
 use py_raw_memory::Cut;
+use py_text::{Encoding, Handler, Reconfigure};
 use std::alloc::Global;
 
 /// A range that the handler refuses refuses no more than what would pass it.
@@ -16,6 +17,23 @@ pub(crate) fn bad_bytes(alloc: Global) -> Result<String> {
     Ok(format!(in alloc;
         "bad bytes: {is_refused} {:?} {is_next}",
         characters(&before)
+    )?)
+}
+
+/// A text of which nothing was taken is read anew by other settings.
+pub(crate) fn other_settings(alloc: Global) -> Result<String> {
+    let mut text = text_of(alloc, b"ab\xFF", &[], STRICT)?;
+    let is_refused = text.read(alloc, None).is_err(); // it knows "ab" now
+    let mut changes = Reconfigure::default();
+    changes.encoding = Some(Encoding::Latin1);
+    text.reconfigure(changes)?;
+    let all = text.read(alloc, None)?; // Some("abÿ")
+    let mut changes = Reconfigure::default();
+    changes.errors = Some(Handler::XmlCharRefReplace); // for texts that are only written
+    let is_other = text.reconfigure(changes) == Err(IoFault::UnknownHandler);
+    Ok(format!(in alloc;
+        "other settings: {is_refused} {:?} {is_other}",
+        characters(&all)
     )?)
 }
 

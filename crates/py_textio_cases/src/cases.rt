@@ -5,12 +5,26 @@ use py_flat::IoFault;
 use py_memio::BytesIO;
 use py_raw::RawFlags;
 use py_stream::{BufferedStream, NewRefused};
-use py_text::{Coder, TextSettings};
+use py_text::{Coder, Reconfigure, TextSettings};
 use py_text_trials::{coder, plan_of, push_answer, push_fault, raw_of, rule, split};
 use py_textio::TextIOWrapper;
 use std::alloc::Global;
 
-/// Makes a call: `r` of all, `r2` of two characters, `l` of a line, `l2` of at most two characters of one, `c` closes.
+/// Other settings, as `ENCODING,HANDLER,RULE`: a word that is no name of one leaves it.
+fn changes(words: &str) -> Reconfigure {
+    let (encoding, rest) = words.split_once(',').unwrap_or((words, ""));
+    let (errors, newline) = rest.split_once(',').unwrap_or((rest, ""));
+    Reconfigure {
+        encoding: coder(encoding, "strict").map(|own| own.encoding),
+        errors: coder("utf-8", errors).map(|own| own.errors),
+        newline: rule(newline),
+        line_buffering: None,
+        write_through: None,
+    }
+}
+
+/// Makes a call: `r` of all, `r2` of two characters, `l` of a line, `l2` of at most two characters of one, `c` closes, and `slatin-1,-,lf` sets
+/// the encoding and the rule.
 fn call<B: BufferedStream>(
     alloc: Global,
     text: &mut TextIOWrapper<B>,
@@ -24,11 +38,15 @@ fn call<B: BufferedStream>(
         Some('r') => text.read(alloc, size),
         Some('l') => text.readline(alloc, size),
         Some('c') => text.close().map(|_| None),
+        Some('s') => text.reconfigure(changes(letters.as_str())).map(|_| None),
         _ => return Err(anyhow!("no such call")),
     };
-    let closed = kind == Some('c') && answer.is_ok();
-    if closed {
-        return Ok(out.push_str("closed")?);
+    if answer.is_ok() {
+        match kind {
+            Some('c') => return Ok(out.push_str("closed")?),
+            Some('s') => return Ok(out.push_str("set")?),
+            _ => {}
+        }
     }
     Ok(push_answer(alloc, out, answer, text.short())?)
 }
