@@ -7,7 +7,7 @@ use Rattle.py_flat.specs.declared.life.Life.{Life}
 use Rattle.py_flat.specs.declared.life.Life.TheVariants as life
 use Rattle.py_flat.specs.Bytes.{lay}
 use Rattle.py_flat.specs.Causes.{Rose, rose}
-use Rattle.py_flat.specs.Calls.{FileCall, Detach, FileReply, Unwritten, Refused}
+use Rattle.py_flat.specs.Calls.{FileCall, Detach, FileReply, Done, Unwritten, Refused}
 use Rattle.py_flat.specs.Calls as binary
 use Rattle.py_flat.specs.FlatFile.{Abilities, FlatFile}
 use Rattle.py_flat.specs.Owed.{Owed}
@@ -109,7 +109,8 @@ text_refused_by file call current why is asks passes fails = rw (asks, is, passe
 
 -- the settings that a text has after a call
 size_stays : (size : ℕ) (reply : FileReply) (settings : TextSettings) → over.settings_after (text.SetChunkSize size) reply settings ≡ record settings { chunk_size = (over.settings_after (text.SetChunkSize size) reply settings).chunk_size }
-size_stays size reply settings = grind arith
+size_stays size Done settings = refl
+size_stays size reply settings = refl
 
 settings_stay : (call : Call) (reply : FileReply) (settings : TextSettings) → over.settings_after (text_call call) reply settings ≡ record settings { chunk_size = (over.settings_after (text_call call) reply settings).chunk_size }
 settings_stay (call.SetChunkSize size) reply settings = size_stays size reply settings
