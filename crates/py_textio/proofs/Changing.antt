@@ -27,6 +27,7 @@ use Rattle.py_read_text.specs.Owing.{all_owed, IsJoined}
 use Rattle.py_read_text.specs.Knowing.{TextView, place_of, over_of as read_of, IsSetTo}
 use Rattle.py_read_text.specs.Answers.{Answers}
 use Rattle.py_read_text.proofs.Owing.{passes_none, owes_none, open_still}
+use Rattle.py_read_text.proofs.Fronts.{lays_still}
 use Rattle.py_textio.specs.Written.{WrittenView, behind_owed, place_now, over_of, state_of, file_now, StandsToWrite, IsWritten}
 use Rattle.py_textio.proofs.Refusing.{refused, own_life}
 
@@ -162,6 +163,8 @@ set_answers view changes live accepted joined = record {
   nothing = λ none. refl;
   moves = record { settings = refl; life_is = refl; place = refl; written = tt };
   joined = joined;
+  lays = lays_still (over_of view) _;
+  unclosed = λ some closed. refl;
   owes = owes_none (over_of view) (Reconfigure changes) (with_changes (over_of view) changes) tt (passes_none view.text.buffer.raw (all_owed (over_of view)));
   starves = tt;
   closes = tt;
