@@ -10,7 +10,6 @@ use Rattle.py_stream.specs.declared.access.Access.{Access}
 use Rattle.py_stream.specs.declared.access.Access.TheVariants as access
 use Rattle.py_stream.specs.Access.{is_able}
 use Rattle.py_calls.specs.declared.call.Call.{Call}
-use Rattle.py_calls.specs.declared.reply.Reply.{Reply}
 use Rattle.py_mode.specs.declared.open_args.OpenArgs.{OpenArgs}
 use Rattle.py_mode.specs.declared.plan.OpenPlan.{OpenPlan}
 use Rattle.py_mode.specs.declared.mode.FileMode.{FileMode}
@@ -20,7 +19,6 @@ use Rattle.py_mode.specs.declared.mode.Mode.{Mode}
 use Rattle.py_mode.specs.declared.plan.PlanKind.{PlanKind}
 use Rattle.py_mode.specs.declared.plan.PlanKind.TheVariants as kind
 use Rattle.py_mode.specs.Plan.{built_in_plan, buffer_of, IsPlannedAs, IsPlanned}
-use Rattle.py_open.specs.Session.{SessionView}
 use Rattle.py_open.specs.Opening.{access_by, access_of, suits_plan, RefusesSession}
 use Rattle.py_open.specs.Run.{RefusesOpening}
 use Rattle.py_script.specs.Faults.{refused_line}

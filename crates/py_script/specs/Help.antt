@@ -21,12 +21,12 @@ words_help =
     [] ∷
     codes "MODE is as in Python's open. Each OPTION is given at most once, in any order:" ∷
     codes "  buffering=I    size of the buffer in bytes; 0: none; 1, and I below 0: 8192" ∷
-    codes "  encoding=NAME  the encoding (default utf-8)" ∷
-    codes "  errors=NAME    the handler of malformed bytes (default strict)" ∷
+    codes "  encoding=NAME  utf-8 (default), latin-1, ascii, utf-16-le or utf-16-be" ∷
+    codes "  errors=NAME    strict (default), ignore, replace or another of Python's" ∷
     codes "  newline=HEX    what ends a line, in hex of its UTF-8: 0a is LF (default: any" ∷
     codes "                 of CR LF, CR and LF, each read as LF); none: empty text" ∷
     codes "  chunk=N        bytes that a text asks its buffer for at once (default 8192)" ∷
-    codes "So far MODE is any but ab+ and a+, and a text (no b) in UTF-8, strict, buffered." ∷
+    codes "MODE is any but ab+ and a+. A text (no b) has to have a buffer." ∷
     []
 
 -- the script and its replies

@@ -9,12 +9,12 @@ Opens a file, makes the calls of a script on it, and prints each reply.
 
 MODE is as in Python's open. Each OPTION is given at most once, in any order:
   buffering=I    size of the buffer in bytes; 0: none; 1, and I below 0: 8192
-  encoding=NAME  the encoding (default utf-8)
-  errors=NAME    the handler of malformed bytes (default strict)
+  encoding=NAME  utf-8 (default), latin-1, ascii, utf-16-le or utf-16-be
+  errors=NAME    strict (default), ignore, replace or another of Python's
   newline=HEX    what ends a line, in hex of its UTF-8: 0a is LF (default: any
                  of CR LF, CR and LF, each read as LF); none: empty text
   chunk=N        bytes that a text asks its buffer for at once (default 8192)
-So far MODE is any but ab+ and a+, and a text (no b) in UTF-8, strict, buffered.
+MODE is any but ab+ and a+. A text (no b) has to have a buffer.
 
 A script has a call a line, one space between words, and 1048576 bytes at most:
   read [N]           reads N bytes, of a text characters, or all that is left

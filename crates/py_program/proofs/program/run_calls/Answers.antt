@@ -1,13 +1,11 @@
-use Rattle.std.proofs.Common.{◌≡◌, ◌≢◌, ℕ, inl, inr, List, Err, refl, sym, subst, rules, arith}
+use Rattle.std.proofs.Common.{◌≡◌, ◌≢◌, ℕ, inl, inr, List, Err, refl, subst, rules, arith}
 use Rattle.std.proofs.lemmas.Grind.{common_steps}
 use Rattle.py_flat.specs.declared.fault.IoFault.TheVariants as fault
 use Rattle.py_raw.specs.RawStream.{Raw}
 use Rattle.py_raw.specs.Opener.{OpenerView, Opens, OpenFaults, OpenLacksMemory, OpenOutcome}
 use Rattle.py_raw.specs.declared.opener.OpenError.{OpenError}
-use Rattle.py_mode.specs.declared.plan.OpenPlan.{OpenPlan}
-use Rattle.py_raw.specs.Opener.{IsOpened}
 use Rattle.py_program.specs.Outcome.{raw_mode, asked_by}
-use Rattle.py_program.proofs.Planned.{one_plan, plan_refused}
+use Rattle.py_program.proofs.Planned.{plan_refused}
 use Rattle.py_program.proofs.Opened.{ended_outcome}
 use Rattle.py_program.proofs.program.run_calls.Goals as goal
 
