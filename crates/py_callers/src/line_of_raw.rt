@@ -3,8 +3,8 @@ ghost use Rattle.py_stream.specs.Opening.{StandsAtStart};
 ghost use Rattle.py_callers.specs.FirstLine.{LineOutcome};
 
 use py_open::{
-    Call, DEFAULT_BUFFER_SIZE, EncodeMode, FileMode, Mode, OpenPlan, OpenRefused, PlanKind, Reply, Run,
-    a_run_answers_each_call, run_planned,
+    Call, DEFAULT_BUFFER_SIZE, EncodeMode, FileMode, Mode, OpenPlan, OpenRefused, PlanKind, Reply,
+    Run, a_run_answers_each_call, run_planned,
 };
 use py_raw::RawStream;
 use py_stream::Detached;

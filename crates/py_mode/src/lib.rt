@@ -27,4 +27,4 @@ pub use mode::{EncodeMode, FileMode, Mode};
 pub use open_args::{OpenArgs, text_encoding};
 pub use plan::{DEFAULT_BUFFER_SIZE, OpenPlan, PlanKind, TextPlan, plan_open};
 pub use py_flat::{Chars, IoFault, ParseModeError};
-pub use py_text::{Coder, CodecsRegistry, SearchFunction, TextSettings};
+pub use py_text::{CodecsRegistry, Coder, SearchFunction, TextSettings};

@@ -8,7 +8,7 @@ use crate::open_args::{encoding_name, handler_name};
 use crate::{EncodeMode, Mode, OpenArgs};
 use py_flat::{Chars, IoFault};
 use py_plain::Newlines;
-use py_text::{Coder, CodecsRegistry, SearchFunction, TextSettings, find_coder};
+use py_text::{CodecsRegistry, Coder, SearchFunction, TextSettings, find_coder};
 use std::alloc::Global;
 
 /// The size of a buffer where none is given, and how many bytes a text asks its buffer for at once: Python 3.11's
@@ -138,7 +138,14 @@ fn text_kind<S: SearchFunction, H: Copy>(
     };
     let encoding = encoding_name(&args.encoding);
     let errors = handler_name(&args.errors);
-    let coder = find_coder(registry, alloc, encoding, errors, mode.reads(), mode.writes())?;
+    let coder = find_coder(
+        registry,
+        alloc,
+        encoding,
+        errors,
+        mode.reads(),
+        mode.writes(),
+    )?;
     Ok(PlanKind::Text(TextPlan {
         buffer_size,
         coder,

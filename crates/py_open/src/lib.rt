@@ -23,10 +23,10 @@ pub use open_refused::OpenRefused;
 pub use py_calls::{Call, Reply};
 pub use py_flat::ParseModeError;
 pub use py_mode::{
-    DEFAULT_BUFFER_SIZE, EncodeMode, FileMode, Mode, OpenArgs, OpenPlan, PlanKind, TextPlan, plan_open,
-    text_encoding,
+    DEFAULT_BUFFER_SIZE, EncodeMode, FileMode, Mode, OpenArgs, OpenPlan, PlanKind, TextPlan,
+    plan_open, text_encoding,
 };
-pub use py_stream::{Detached, Whence};
 pub use py_registry::{CodecsRegistry, SearchFunction};
+pub use py_stream::{Detached, Whence};
 pub use run::{Run, run_planned, run_session};
 pub use session::Session;

@@ -135,7 +135,7 @@ fn run_calls<O: Opener, K: Sink>(
     ensures sink { SinkKeeps (K.shows out.old) (K.shows out.new) }
     ensures outcome { LacksPlan result (outside O.shows K.shows opener.old out.old) (outside O.shows K.shows opener.new out.new)
         ⊎ PlannedOutcome path.now mode.now args calls.items result
-            (outside O.shows K.shows opener.old out.old) (outside O.shows K.shows opener.new out.new) }
+        (outside O.shows K.shows opener.old out.old) (outside O.shows K.shows opener.new out.new) }
     ensures exact { result ≢ Status.SinkFailed → NoSinkFault (K.shows out.old) (K.shows out.new) }
     ensures opener { result ≡ Status.Done → NoOpenerFault (O.shows opener.old) (O.shows opener.new) }
 {
