@@ -1,5 +1,5 @@
 -- Texts that are compared by their characters, and what is known of an accepted plan.
-use Rattle.std.proofs.Common.{◌≡◌, ◌≢◌, ℕ, zero, suc, ◌<◌, ℤ, pos, negsuc, Bool, true, false, ◌&&◌, ◌||◌, if◌then◌else◌, nat_eq, Option, Some, None, is_none, is_some, List, [], ◌∷◌, Result, Ok, Err, codes, ◌⊎◌, inl, inr, refl, sym, ap, subst, ◌∙◌, bytes_eq, arith}
+use Rattle.std.proofs.Common.{◌≡◌, ℕ, zero, suc, ◌<◌, ℤ, pos, negsuc, Bool, true, false, ◌&&◌, ◌||◌, if◌then◌else◌, nat_eq, Option, Some, None, is_some, List, Result, Ok, Err, codes, inl, inr, refl, sym, ap, subst, ◌∙◌, bytes_eq, arith}
 use Rattle.std.specs.Str.{chars as characters, IsUtf8}
 use Rattle.std.proofs.lemmas.Str.{encodes-chars}
 use Rattle.std.proofs.lemmas.Slice.Eq.{bytes_eq-Decides}
@@ -31,7 +31,7 @@ use Rattle.py_mode.specs.declared.plan.PlanKind.TheVariants as kind
 use Rattle.py_mode.specs.declared.plan.TextPlan.{TextPlan}
 use Rattle.py_mode.specs.Mode.{is_append, mode_of, reads, writes}
 use Rattle.py_mode.specs.Names.{encoding_name}
-use Rattle.py_mode.specs.Plan.{buffer_size_of, bytes_kind, buffer_of, gives_text_argument, misfits, has_bad_argument, reads_at_end, refused_early, planned_coder, settings_by, plan_with, text_by, kind_by, plan_unless, plan_by, plan_of, PlansText, IsTextPlan, IsPlannedAs, IsPlanned, registry_left, AsksNames, AsksFunctions, RefusesPlan, Accepts, PlanOutcome}
+use Rattle.py_mode.specs.Plan.{buffer_size_of, bytes_kind, buffer_of, gives_text_argument, misfits, has_bad_argument, reads_at_end, refused_early, planned_coder, settings_by, plan_with, text_by, kind_by, plan_unless, plan_by, plan_of, PlansText, IsTextPlan, IsPlannedAs, IsPlanned, registry_left, RefusesPlan, Accepts}
 use Rattle.py_mode.specs.Planned.{text_of, TextOutcome}
 
 -- two texts are the same by their bytes just where they are by their characters

@@ -1,5 +1,5 @@
 -- What an opening by a mode and arguments sets up, or why it is refused, before any raw is asked (Python's documentation of `open`).
-use Rattle.std.specs.Prelude.{◌≡◌, ℕ, ◌<◌, ◌⊎◌, Bool, true, false, not, ◌&&◌, ◌||◌, ℤ, pos, negsuc, is_none, is_some, List, Option, Some, None, IsSome, Result, Ok, Err, nat_eq, if◌then◌else◌}
+use Rattle.std.specs.Prelude.{◌≡◌, ℕ, ◌<◌, ◌⊎◌, Bool, true, false, ◌&&◌, ◌||◌, ℤ, pos, negsuc, is_none, is_some, List, Option, Some, None, IsSome, Result, Ok, Err, nat_eq, if◌then◌else◌}
 use Rattle.py_flat.specs.declared.mode_error.ParseModeError.{ParseModeError}
 use Rattle.py_flat.specs.declared.fault.IoFault.{IoFault}
 use Rattle.py_flat.specs.declared.fault.IoFault.TheVariants.{NoMemory, Unsupported, BadArgument, ParseMode}

@@ -1,4 +1,4 @@
-use Rattle.std.proofs.Common.{List, ℕ, Option, sym, ap, ◌∙◌}
+use Rattle.std.proofs.Common.{sym, ap, ◌∙◌}
 use Rattle.py_registry.specs.Answers.{name_or_strict}
 use Rattle.py_mode.proofs.Planning.{strict_spelled}
 use Rattle.py_mode.proofs.open_args.handler_name.Goals as goal
