@@ -54,7 +54,11 @@ enum Step {
 }
 
 /// Prints what a reading of n bytes answered.
-fn print_read(rt: &HostRuntime, size: usize, answer: Result<Option<Vec<u8>>, IoFault>) -> Result<()> {
+fn print_read(
+    rt: &HostRuntime,
+    size: usize,
+    answer: Result<Option<Vec<u8>>, IoFault>,
+) -> Result<()> {
     match answer {
         Ok(Some(bytes)) => println!(rt; "read {size}: {}", str::from_utf8(&bytes)?)?,
         Ok(None) => println!(rt; "read {size}: not ready")?,
@@ -166,13 +170,23 @@ pub(crate) fn waits_at_the_close(rt: &HostRuntime) -> Result<()> {
 /// The writer's raw fails as it is written to at the close.
 pub(crate) fn fails_at_the_close(rt: &HostRuntime) -> Result<()> {
     let pair = pair_of(rt.alloc(), &[Cut::Break(1)], &[], &[])?;
-    run(rt, "the writer fails at the close", pair, &[Step::Write("abc"), Step::Close])
+    run(
+        rt,
+        "the writer fails at the close",
+        pair,
+        &[Step::Write("abc"), Step::Close],
+    )
 }
 
 /// Both raws fail to close.
 pub(crate) fn both_fail_at_the_close(rt: &HostRuntime) -> Result<()> {
     let pair = pair_of(rt.alloc(), &[], &[0], &[0])?;
-    run(rt, "both fail at the close", pair, &[Step::Close, Step::Close])
+    run(
+        rt,
+        "both fail at the close",
+        pair,
+        &[Step::Close, Step::Close],
+    )
 }
 
 /// Prints why two raws are refused, and what is handed back.

@@ -186,16 +186,17 @@ fn over_raw(
     if access == Access::Append {
         flat.go_to_end(alloc)?;
     }
-    if trial.run.buffer_size == 0 || trial.run.chunk_size == 0 {
+    let size = trial.run.buffer_size;
+    let settings = trial.text_settings();
+    if size == 0 || settings.chunk_size == 0 {
         return Err(anyhow!("a session without room: {:?}", trial.run));
     }
-    let raw = trial.raw(alloc, RawFlags::able(true, true, true))?;
     let coder = Coder {
         encoding: trial.settings.encoding,
         errors: Handler::Strict,
     };
-    let size = trial.run.buffer_size;
-    match TextSession::new(alloc, raw, access, size, coder, trial.text_settings()) {
+    let raw = trial.raw(alloc, RawFlags::able(true, true, true))?;
+    match TextSession::new(alloc, raw, access, size, coder, settings) {
         Ok(text) => Ok(try_text(alloc, text, flat, trial, counts)?),
         Err(NewRefused { raw, fault }) => {
             if fault != IoFault::RawFault || raw.fault_count() != 1 {
