@@ -351,7 +351,7 @@ pub refuses_text : {S H : Type 0} (finds : S → List ℕ → Option (PyCodec S)
 refuses_text finds before new mode args said why named early text (inl is, same) =
     (inl (plans_on finds before mode args said named early ∙ ap (plan_with said) (kind_of_text finds before said args text ∙ is)), same)
 refuses_text finds before new mode args said why named early text (inr lacks, same) =
-    (inr (lacks.is, record { names = record { said = said; named = named; is_text = text; early = early; rule = lacks.rule }; unknown = lacks.unknown }), same)
+    (inr (lacks.is, record { names = record { said = said; named = named; is_text = text; early = early; rule = lacks.rule }; asks = lacks.asks }), same)
 
 -- a stream of bytes is planned
 pub plans_bytes : {S H : Type 0} (finds : S → List ℕ → Option (PyCodec S)) (before : Machine S H) (mode : List ℕ) (args : OpenArgs) (said : Mode) → mode_of mode ≡ Ok said → refused_early said args ≡ None → said.encode ≡ Bytes → Accepts finds before mode args (record { mode = said; kind = bytes_kind (buffer_size_of args.buffering) }) before

@@ -8,8 +8,8 @@ use Rattle.py_plain.specs.NewlineArgument.{rule_of}
 use Rattle.py_codec.specs.declared.no_handler.NoHandler.{NoHandler}
 use Rattle.py_registry.specs.declared.codec.PyCodec.{PyCodec}
 use Rattle.py_registry.specs.declared.no_search.NoSearch.{NoSearch}
-use Rattle.py_registry.specs.Machine.{Machine, fresh, known, looked_up}
-use Rattle.py_registry.specs.Answers.{name_or_strict}
+use Rattle.py_registry.specs.Machine.{Machine, fresh, looked_up}
+use Rattle.py_registry.specs.Answers.{name_or_strict, AsksFunctions}
 use Rattle.py_text.specs.declared.coder.Coder.{Coder}
 use Rattle.py_text.specs.declared.text_settings.TextSettings.{TextSettings}
 use Rattle.py_text.specs.Coders.{is_of_stream, coder_by}
@@ -47,7 +47,7 @@ misfits Bytes args = gives_text_argument args
 abbrev pub has_bad_argument : Mode → OpenArgs → Bool
 has_bad_argument mode args = nat_eq args.chunk_size 0 || misfits mode.encode args
 
--- whether a file is asked to be read too that is written at its end alone, which isn't opened so far
+-- whether a file is asked to be read too that is written at its end alone, which isn't opened
 abbrev pub reads_at_end : Mode → Bool
 reads_at_end mode = mode.plus && is_append mode.file
 
@@ -117,14 +117,14 @@ pub record AsksNames (mode : List ℕ) (args : OpenArgs) : Type 0 where
   pub early : refused_early said args ≡ None
   pub rule : IsSome (rule_of args.newline)
 
--- search functions are asked for the name of an encoding that no registry knows by itself
-pub record AsksFunctions {S H : Type 0} (machine : Machine S H) (mode : List ℕ) (args : OpenArgs) : Type 0 where
+-- search functions are asked for the name of an encoding: the registry has some, and doesn't know the name without them
+pub record PlanAsksFunctions {S H : Type 0} (machine : Machine S H) (mode : List ℕ) (args : OpenArgs) : Type 0 where
   pub names : AsksNames mode args
-  pub unknown : known machine (encoding_name args.encoding) ≡ None
+  pub asks : AsksFunctions machine (encoding_name args.encoding)
 
 -- planning is refused: as the plan is, or when out of memory, which comes only where search functions are asked
 abbrev pub RefusesPlan : {S H : Type 0} → (finds : S → List ℕ → Option (PyCodec S)) → Machine S H → List ℕ → OpenArgs → IoFault → Type 0
-RefusesPlan finds machine mode args why = (plan_of finds machine mode args ≡ Err why) ⊎ ((why ≡ NoMemory) × AsksFunctions machine mode args)
+RefusesPlan finds machine mode args why = (plan_of finds machine mode args ≡ Err why) ⊎ ((why ≡ NoMemory) × PlanAsksFunctions machine mode args)
 
 -- what an accepted plan leaves of the registry: of a text, what a lookup of its encoding's name leaves; else it is as it was
 abbrev pub registry_left : {S H : Type 0} → (finds : S → List ℕ → Option (PyCodec S)) → Machine S H → OpenArgs → PlanKind → Machine S H

@@ -1,10 +1,11 @@
 -- Private: what a text is planned with.
-use Rattle.std.specs.Prelude.{◌≡◌, ℕ, ◌⊎◌, List, Option, None, IsSome, Result, Ok, Err}
+use Rattle.std.specs.Prelude.{◌≡◌, ℕ, ◌⊎◌, List, Option, IsSome, Result, Ok, Err}
 use Rattle.py_flat.specs.declared.fault.IoFault.{IoFault}
 use Rattle.py_flat.specs.declared.fault.IoFault.TheVariants.{NoMemory}
 use Rattle.py_plain.specs.NewlineArgument.{rule_of}
 use Rattle.py_registry.specs.declared.codec.PyCodec.{PyCodec}
-use Rattle.py_registry.specs.Machine.{Machine, known, looked_up}
+use Rattle.py_registry.specs.Machine.{Machine, looked_up}
+use Rattle.py_registry.specs.Answers.{AsksFunctions}
 use Rattle.py_mode.specs.declared.mode.Mode.{Mode}
 use Rattle.py_mode.specs.declared.open_args.OpenArgs.{OpenArgs}
 use Rattle.py_mode.specs.declared.plan.PlanKind.{PlanKind}
@@ -19,7 +20,7 @@ text_of finds machine mode args = text_by (buffer_size_of args.buffering) (rule_
 pub record LacksMemory {S H : Type 0} (machine : Machine S H) (args : OpenArgs) (why : IoFault) : Type 0 where
   pub is : why ≡ NoMemory
   pub rule : IsSome (rule_of args.newline)
-  pub unknown : known machine (encoding_name args.encoding) ≡ None
+  pub asks : AsksFunctions machine (encoding_name args.encoding)
 
 abbrev pub TextOutcome : {S H : Type 0} → (finds : S → List ℕ → Option (PyCodec S)) → Machine S H → Mode → OpenArgs → Result PlanKind IoFault → Machine S H → Type 0
 TextOutcome finds before mode args (Ok kind) new = (text_of finds before mode args ≡ Ok kind) × (new ≡ looked_up finds before (encoding_name args.encoding))

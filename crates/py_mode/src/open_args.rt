@@ -14,7 +14,7 @@ pub struct OpenArgs {
     /// The buffer's size in bytes; 0 is unbuffered, which a text can't be; 1 or a negative number means 8192. With 1 a text is also
     /// flushed after each write that has a line end.
     pub buffering: i64,
-    /// The encoding's name, which the registry finds; `None` and `locale`, letter for letter, mean utf-8.
+    /// The encoding's name, which the registry finds; `None` and `locale`, letter for letter, stand for utf-8.
     pub encoding: Option<Chars>,
     /// The handler's name, which the registry finds letter for letter; `None` is the name `strict`.
     pub errors: Option<Chars>,

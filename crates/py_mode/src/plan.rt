@@ -163,7 +163,7 @@ fn text_kind<S: SearchFunction, H: Copy>(
 /// by, which the registry finds by the names of the arguments, and its settings. The arguments stay with the caller.
 ///
 /// 0 asks for no buffer, 1 and any negative number for 8192 bytes, any greater number for as many bytes. With 1 a text is also flushed
-/// after each write that has a line end. Encoding `None` and `locale`, letter for letter, are the name `utf-8`; errors `None` is the name
+/// after each write that has a line end. Without an encoding, or with `locale`, letter for letter, the name that is looked for is `utf-8`; without errors it is
 /// `strict`.
 ///
 /// It is refused, by the first of these that applies:
@@ -178,7 +178,8 @@ fn text_kind<S: SearchFunction, H: Copy>(
 /// - as `UnknownHandler`, where no handler has the errors' name in the registry, or not a built-in one, or not one of each direction:
 ///   what is read takes strict, ignore, replace, backslashreplace and surrogateescape, and what is written those and xmlcharrefreplace.
 ///
-/// `NoMemory` means out of memory; it comes only where search functions are asked for the encoding's name. A codec that one of them
+/// `NoMemory` means out of memory; it comes only where search functions are asked for the encoding's name: some are registered, and
+/// the registry doesn't know the name without them. A codec that one of them
 /// found for an accepted text is kept, as a lookup keeps it. A refusal leaves the registry as it was, and so does a binary mode, which
 /// asks for no name.
 ///

@@ -1,5 +1,5 @@
 -- What the calls of a registry answer.
-use Rattle.std.specs.Prelude.{◌≡◌, ℕ, ◌^◌, Bool, true, false, nat_lt, if◌then◌else◌, List, codes, Option, Some, None, Result, Ok, Err}
+use Rattle.std.specs.Prelude.{◌≡◌, ◌≢◌, ℕ, ◌^◌, Bool, true, false, nat_lt, if◌then◌else◌, List, [], codes, Option, Some, None, Result, Ok, Err}
 use Rattle.py_flat.specs.declared.fault.IoFault.{IoFault}
 use Rattle.py_flat.specs.declared.fault.IoFault.TheVariants.{NoMemory, TooFar, UnknownEncoding, UnknownHandler}
 use Rattle.py_plain.specs.declared.encoding.Encoding.{Encoding}
@@ -10,18 +10,23 @@ use Rattle.py_registry.specs.declared.codec.PyCodec.TheVariants.{Builtin}
 use Rattle.py_registry.specs.declared.path.Probe.{Probe}
 use Rattle.py_registry.specs.declared.path.Probe.TheVariants.{Hit, Search}
 use Rattle.py_registry.specs.Coding.{is_text, Coded, listed, IsExpected}
-use Rattle.py_registry.specs.Machine.{Machine, known, found, looked_up, handler_of}
+use Rattle.py_registry.specs.Machine.{Machine, path_of, known, found, looked_up, handler_of}
 
 -- a value that is there, or a fault
 abbrev pub there_or : {T : Type 0} → IoFault → Option T → Result T IoFault
 there_or fault None = Err fault
 there_or fault (Some value) = Ok value
 
--- a probe answers the codec that is known, or else the functions to be asked, or running out of memory
+-- search functions are asked for a name: it is known without them of no codec, and there are some
+pub record AsksFunctions {S H : Type 0} (machine : Machine S H) (name : List ℕ) : Type 0 where
+  pub unknown : known machine name ≡ None
+  pub functions : path_of machine ≢ []
+
+-- a probe answers the codec that is known, or else the functions to be asked, or, where there are some, running out of memory
 abbrev pub IsProbe : {S : Type 0} → (known : Option (PyCodec S)) → (path : List S) → Result (Probe S) IoFault → Type 0
 IsProbe known path (Ok (Hit codec)) = known ≡ Some codec
 IsProbe known path (Ok (Search functions)) = (known ≡ None) × (functions ≡ path)
-IsProbe known path (Err why) = (known ≡ None) × (why ≡ NoMemory)
+IsProbe known path (Err why) = (known ≡ None) × (path ≢ []) × (why ≡ NoMemory)
 
 -- an answer is what was expected, and what it leaves is `after`; or it is the expected refusal or running out of memory, and
 -- leaves all as it was

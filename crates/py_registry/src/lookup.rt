@@ -1,7 +1,7 @@
-ghost use Rattle.std.specs.Prelude.{◌≡◌, None, Ok, chars, IfOk, IfErr};
+ghost use Rattle.std.specs.Prelude.{◌≡◌, ◌≢◌, None, Ok, [], chars, IfOk, IfErr};
 ghost use Rattle.py_flat.specs.declared.fault.IoFault.TheVariants.{NoMemory, UnknownEncoding};
 ghost use Rattle.py_registry.specs.Machine.{path_of, cached, known, searched, found, settled, standing, looked_up};
-ghost use Rattle.py_registry.specs.Answers.{IsProbe, Answers, there_or};
+ghost use Rattle.py_registry.specs.Answers.{AsksFunctions, IsProbe, Answers, there_or};
 
 use crate::built_in::built_in;
 use crate::spelling::spelled;
@@ -23,10 +23,14 @@ impl<S: SearchFunction, H: Copy> CodecsRegistry<S, H> {
         }
     }
 
-    /// The search functions in the order of their numbers.
+    /// The search functions in the order of their numbers. Where there are none it takes no memory.
     fn path(&self, alloc: Global) -> Result<Path<S>, AllocError>
-        ensures { IfOk result (λ path. path ≡ path_of self.now) }
+        ensures path { IfOk result (λ path. path ≡ path_of self.now) }
+        ensures functions { IfErr result (λ why. path_of self.now ≢ []) }
     {
+        if self.functions.is_empty() {
+            return Ok(Path::from_vec(Vec::new(alloc)));
+        }
         let mut functions = Vec::with_capacity(alloc, self.functions.len())?;
         for (_, function) in &self.functions {
             functions.push(*function)?;
@@ -37,7 +41,7 @@ impl<S: SearchFunction, H: Copy> CodecsRegistry<S, H> {
     /// The first part of a lookup: the codec that a name has in the cache or that is built in under it, or else the
     /// search functions to be asked for it.
     ///
-    /// `NoMemory` when out of memory, which a codec that is there takes none of.
+    /// `NoMemory` when out of memory, which is taken only where there are functions to be asked.
     pub fn probe(&self, alloc: Global, name: &str) -> Result<Probe<S>, IoFault>
         ensures { IsProbe (known self.now (chars name.now)) (path_of self.now) result }
     {
@@ -50,7 +54,7 @@ impl<S: SearchFunction, H: Copy> CodecsRegistry<S, H> {
     /// The second part of a lookup, for which no registry is needed: the codec that the first of some search functions
     /// finds that finds one; `None` where none does.
     ///
-    /// `NoMemory` when out of memory.
+    /// `NoMemory` when out of memory, which is taken only where there are functions.
     pub fn search_path(
         alloc: Global,
         path: &Path<S>,
@@ -58,7 +62,11 @@ impl<S: SearchFunction, H: Copy> CodecsRegistry<S, H> {
     ) -> Result<Option<PyCodec<S>>, IoFault>
         ensures found { IfOk result (λ codec. codec ≡ searched S.finds path.now (chars name.now)) }
         ensures err { IfErr result (λ why. why ≡ NoMemory) }
+        ensures functions { IfErr result (λ why. path.now ≢ []) }
     {
+        if path.as_slice().is_empty() {
+            return Ok(None);
+        }
         let spelled = spelled(alloc, name)?;
         for function in path.as_slice() {
             if let Some(codec) = function.search(spelled.as_str()) {
@@ -92,7 +100,7 @@ impl<S: SearchFunction, H: Copy> CodecsRegistry<S, H> {
     pub(crate) fn find(&self, alloc: Global, name: &str) -> Result<Option<PyCodec<S>>, IoFault>
         ensures found { IfOk result (λ codec. codec ≡ found S.finds self.now (chars name.now)) }
         ensures err { IfErr result (λ why. why ≡ NoMemory) }
-        ensures known { IfErr result (λ why. known self.now (chars name.now) ≡ None) }
+        ensures asks { IfErr result (λ why. AsksFunctions self.now (chars name.now)) }
     {
         match self.probe(alloc, name)? {
             Probe::Hit(codec) => Ok(Some(codec)),
@@ -110,6 +118,7 @@ impl<S: SearchFunction, H: Copy> CodecsRegistry<S, H> {
         ensures answer { Answers result (there_or UnknownEncoding (found S.finds self.old (chars name.now))) self.old
             (looked_up S.finds self.old (chars name.now)) self.new }
         ensures known { IfErr result (λ why. known self.old (chars name.now) ≡ None) }
+        ensures asks { IfErr result (λ why. why ≡ NoMemory → AsksFunctions self.old (chars name.now)) }
     {
         match self.probe(alloc, name)? {
             Probe::Hit(codec) => Ok(codec),

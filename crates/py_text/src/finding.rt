@@ -1,7 +1,7 @@
-ghost use Rattle.std.specs.Prelude.{◌≡◌, None, Some, chars, IfErr};
+ghost use Rattle.std.specs.Prelude.{◌≡◌, Some, chars, IfErr};
 ghost use Rattle.py_flat.specs.declared.fault.IoFault.TheVariants.{NoMemory};
-ghost use Rattle.py_registry.specs.Machine.{known, looked_up, handler_of};
-ghost use Rattle.py_registry.specs.Answers.{Answers};
+ghost use Rattle.py_registry.specs.Machine.{looked_up, handler_of};
+ghost use Rattle.py_registry.specs.Answers.{AsksFunctions, Answers};
 ghost use Rattle.py_plain_text.specs.TextWriting.{writes_texts};
 ghost use Rattle.py_text.specs.Coders.{is_of_stream, coder_with, coder_of, coder_by};
 
@@ -72,7 +72,8 @@ fn coder_of<S: SearchFunction, H: Copy>(
 /// built-in one, or not one of each direction: texts are read with strict, ignore, replace, backslashreplace and
 /// surrogateescape, and written with those and xmlcharrefreplace; of no direction nothing is asked. Where both names are
 /// missed it is `UnknownEncoding`.
-/// `NoMemory` means out of memory, and comes only where search functions are asked.
+/// `NoMemory` means out of memory, and comes only where search functions are asked: some are registered, and none of the names that
+/// need none is the encoding's.
 ///
 /// The codec that a search function found is kept then, as a lookup keeps it; a refusal leaves the registry as it was.
 pub fn find_coder<S: SearchFunction, H: Copy>(
@@ -85,7 +86,7 @@ pub fn find_coder<S: SearchFunction, H: Copy>(
 ) -> Result<Coder, IoFault>
     ensures answer { Answers result (coder_by S.finds readable writable registry.old (chars encoding.now) (chars errors.now))
         registry.old (looked_up S.finds registry.old (chars encoding.now)) registry.new }
-    ensures known { IfErr result (λ why. why ≡ NoMemory → known registry.old (chars encoding.now) ≡ None) }
+    ensures asks { IfErr result (λ why. why ≡ NoMemory → AsksFunctions registry.old (chars encoding.now)) }
 {
     match registry.probe(alloc, encoding)? {
         Probe::Hit(codec) => coder_of(registry, codec, errors, readable, writable),
