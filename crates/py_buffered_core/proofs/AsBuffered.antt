@@ -1,24 +1,18 @@
 -- A buffered stream as the layer above asks for one.
-use Rattle.std.proofs.Common.{◌≡◌, ℕ, Bool, true, false, not, ◌||◌, IsTrue, List, Option, Some, None, IsSome, inr, refl, sym, ap, ◌∙◌, arith}
-use Rattle.py_flat.specs.declared.fault.IoFault.{IoFault}
-use Rattle.py_flat.specs.Calls.{FileCall, FileReply, Read1, Write, Refused}
-use Rattle.py_flat.specs.Refusals.{is_unbuffered}
+use Rattle.std.proofs.Common.{◌≡◌, ℕ, Bool, false, IsTrue, List, Option, arith}
+use Rattle.py_flat.specs.Calls.{FileCall, FileReply, Read1, Write}
 use Rattle.py_stream.specs.declared.access.Access.{Access}
 use Rattle.py_stream.specs.Access.{can_of, is_read, is_written}
-use Rattle.py_stream.specs.Stream.{Stream, buffering_of}
+use Rattle.py_stream.specs.Stream.{Stream}
 use Rattle.py_stream.specs.Answers.{Answers, RefusesAlone}
 use Rattle.py_stream.specs.Buffer.{taken_by, OwesAsItCan, is_made, AnswersAsBuffer}
 use Rattle.py_stream.proofs.Buffering.{answers_as_buffer}
-use Rattle.py_engine.specs.Engine.{EngineView, stream_of}
+use Rattle.py_engine.specs.Engine.{EngineView}
 use Rattle.py_buffered_core.specs.Buffered.{BufferedView, seen_as, seen_of, as_buffer, IsBuffered}
-
--- there is a buffer, in every life
-has_buffer : (engine : Option EngineView) (opened : Access) (seekable : Bool) (size : ℕ) → IsSome (seen_as engine opened seekable size).buffer
-has_buffer engine opened seekable size = grind arith
 
 -- an answer of it is one of a buffered stream
 pub answers_so : (old new : BufferedView) (call : FileCall) (reply : FileReply) → OwesAsItCan (as_buffer old) → IsTrue (is_made call) → Answers (seen_of old) call reply (seen_of new) → new.taken ≡ taken_by call (seen_of old).place (seen_of new).place old.taken → AnswersAsBuffer (as_buffer old) call reply (as_buffer new)
-answers_so old new call reply owes made answers counts = answers_as_buffer (seen_of old) old.taken call reply (seen_of new) new.taken answers counts made (has_buffer old.engine old.access old.seekable old.size) owes
+answers_so old new call reply owes made answers counts = answers_as_buffer (seen_of old) old.taken call reply (seen_of new) new.taken answers counts made (grind arith) owes
 
 -- What it is opened for is what it can do.
 

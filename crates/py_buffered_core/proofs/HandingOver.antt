@@ -31,10 +31,6 @@ begins_written opened current old new result writes begins = grind arith
 begins_read : (opened : Access) (old new : Stream) (result : Result (Unit {0}) IoFault) → is_written opened ≡ false → PassesToDetach opened old result new → (result ≡ Ok tt) × (new ≡ old)
 begins_read opened old new result reads begins = grind arith
 
--- a stream that isn't written is read alone
-is_read_alone : (opened : Access) → is_written opened ≡ false → opened ≡ access.Read
-is_read_alone opened reads = grind arith
-
 -- A detaching that is refused.
 
 refused_read : (old new : EngineView) (current : Life) (why : IoFault) → Stands old → is_written old.access ≡ false → old.life ≡ current → BeginsDetachIn old.access current (begun (stream_of old)) (Err why) (stream_of new) → Answers (stream_of old) Detach (Refused why) (stream_of new)
@@ -67,7 +63,7 @@ hands_same old new is at_once same =
 
 hands_read : (old new : EngineView) (current : Life) → Stands old → is_written old.access ≡ false → old.life ≡ current → BeginsDetachIn old.access current (begun (stream_of old)) (Ok tt) (stream_of new) → HandsBack old new
 hands_read old new current is reads at begins =
-    let alone = reads_alone old is (is_read_alone old.access reads) in
+    let alone = reads_alone old is (grind arith) in
     grind (arith, hands_same, owes_nothing, begins_read, begun)
 
 hands_in : (old new : EngineView) (written : Bool) → is_written old.access ≡ written → BeginsDetach (Some old) (Ok tt) (Some new) → HandsBack old new

@@ -1,4 +1,3 @@
 pub mod Counting
-pub mod Outer
 pub mod HandingOver
 pub mod AsBuffered

@@ -1,20 +1,19 @@
 -- The calls that give nothing, or bytes, by what the stream is opened for: what holds when a call begins, and what its steps come to.
-use Rattle.std.proofs.Common.{◌≡◌, ◌≢◌, ℕ, [], length, Bool, true, false, Result, Ok, Err, IfOk, refl, sym, ap, ◌∙◌, subst, arith}
+use Rattle.std.proofs.Common.{◌≡◌, ℕ, [], length, Bool, true, false, Result, Ok, Err, IfOk, refl, sym, ap, ◌∙◌, subst, arith}
 use Rattle.py_flat.specs.declared.fault.IoFault.{IoFault}
-use Rattle.py_flat.specs.declared.fault.IoFault.TheVariants as fault
 use Rattle.py_flat.specs.declared.life.Life.TheVariants as life
-use Rattle.py_flat.specs.Calls.{Flush, Close, Refused}
+use Rattle.py_flat.specs.Calls.{FileCall, Flush, Close, FileReply, Refused}
 use Rattle.py_stream.specs.declared.access.Access.{Access}
 use Rattle.py_stream.specs.declared.access.Access.TheVariants as access
 use Rattle.py_stream.specs.Access.{can_of, is_written}
-use Rattle.py_stream.specs.Stream.{Span, Stream, nothing_owed, nothing_held}
-use Rattle.py_stream.specs.Settling.{SettleOutcome}
+use Rattle.py_stream.specs.Stream.{Stream, Span, nothing_owed, nothing_held}
 use Rattle.py_stream.specs.Writing.{StandsBare}
 use Rattle.py_stream.specs.Replies.{done_reply}
 use Rattle.py_stream.specs.Answers.{Answers, moves_back}
 use Rattle.py_stream.specs.Moving.{Begins, keeps_pending, OwesBy, SettlesBy}
 use Rattle.py_stream.specs.Ending.{CloseRawOutcome}
 use Rattle.py_stream.specs.Taking.{MayTake, BeginsWriting}
+use Rattle.py_stream.proofs.Begun.{answers_whole}
 use Rattle.py_stream.proofs.Given.{writing_refused}
 use Rattle.py_stream.proofs.Showing.{IsWriting}
 use Rattle.py_stream.proofs.PassingOn.{begun}
@@ -36,6 +35,10 @@ writes_able opened seekable writes = grind arith
 -- a call of an engine begins as one of its stream does
 pub begins : (old new : EngineView) (result : Result (Unit {0}) IoFault) → BeginOutcome old result new → Begins (stream_of old) result (stream_of new)
 begins old new result began = grind arith
+
+-- what answers the engine with which a call begins answers the one that was
+pub answers_from_begun : (old begun : EngineView) (call : FileCall) (reply : FileReply) (after : Stream) → BeginOutcome old (Ok tt) begun → Answers (stream_of begun) call reply after → Answers (stream_of old) call reply after
+answers_from_begun old begun call reply after began answers = answers_whole (stream_of old) after call reply (subst (λ (engine : EngineView). Answers (stream_of engine) call reply after) began.1 answers)
 
 -- an engine that forgot a wait stands as it stood
 pub stands_whole : (engine : EngineView) → Stands engine → Stands (record engine { short = false })
@@ -86,13 +89,6 @@ closing_stops other old started new why opened is began stops = close_stops (str
 reads_stay : (engine : EngineView) → engine.access ≡ access.Read → moves_back (stream_of engine) ≡ false
 reads_stay engine opened = grind arith
 
--- a passing on that doesn't fail is one for a closing
-pub passes_to_close : (opened : Access) (old : Stream) (new : EngineView) (result : Result (Unit {0}) IoFault) → PassesAll opened old result (stream_of new) → IfOk result (λ done. is_written opened ≡ true → new.raw_place ≡ place_of new.window) → result ≢ Err fault.RawFault → PassesToClose opened old result (stream_of new)
-passes_to_close access.Read old new result passed stands unfailed = passed
-passes_to_close other old new (Ok done) passed stands unfailed = (passed, λ _. stands refl)
-passes_to_close other old new (Err fault.RawFault) passed stands unfailed = absurd (unfailed refl)
-passes_to_close other old new (Err why) passed stands unfailed = passed
-
 -- a `close` that passed all on answers what the closing of the raw came to
 pub closes : (opened : Access) (old started mid new : EngineView) (result : Result (Unit {0}) IoFault) → old.access ≡ opened → Stands old → BeginOutcome old (Ok tt) started → PassesToClose opened (stream_of started) (Ok tt) (stream_of mid) → CloseRawOutcome (stream_of mid) result (stream_of new) → Answers (stream_of old) Close (done_reply result) (stream_of new)
 closes access.Read old started mid new result opened is began passed shut = grind (arith, close_answers_at_once, is_sound, stands_whole, reads_there, reads_stay, begins)
@@ -118,14 +114,6 @@ pub settles_bare : (opened : Access) (old new : EngineView) (result : Result (Un
 settles_bare opened old new (Err why) is passed stands behind rests = tt
 settles_bare access.Read old new (Ok done) is passed stands behind rests = λ writes. absurd (let reads : false ≡ true = sym (ap (λ (opened : Access). (can_of opened old.raw.seekable).writable) is) ∙ writes in cc)
 settles_bare other old new (Ok done) is passed stands behind rests = λ writes. let here : RestsHere (stream_of new) = rests_here new (stands refl) (behind refl) (rests refl) in record { none = passed.2; held = here.held; stands = here.stands }
-
--- a stream that is written passes all on
-pub settles_writing : (old new : EngineView) (result : Result (Unit {0}) IoFault) → is_written old.access ≡ true → SettleOutcome (stream_of old) result (stream_of new) → SettlesBy (keeps_pending (stream_of old)) (stream_of old) result (stream_of new)
-settles_writing old new result writes settles = grind arith
-
--- another has nothing to pass on
-pub settles_reading : (engine : EngineView) → is_written engine.access ≡ false → SettlesBy (keeps_pending (stream_of engine)) (stream_of engine) (Ok tt) (stream_of engine)
-settles_reading engine reads = grind arith
 
 -- Giving bytes.
 

@@ -2,7 +2,7 @@
 use Rattle.std.proofs.Common.{◌≡◌, ◌≢◌, ℕ, ◌+◌, ◌-◌, ◌<◌, ◌≤◌, true, IsTrue, List, [], length, take, drop, ⊎_elim, Some, None, Ok, Err, refl, sym, ap, ◌∙◌, subst, arith, add-zero}
 use Rattle.std.proofs.lemmas.Bool.{cases_lt}
 use Rattle.std.proofs.lemmas.Bool.Decides.{eqb_tells}
-use Rattle.std.proofs.lemmas.List.{length-drop, length-take-le, drop-take, drop-drop, drop_all}
+use Rattle.std.proofs.lemmas.List.{length-drop, drop-take, drop-drop, drop_all}
 use Rattle.py_flat.specs.declared.fault.IoFault.{IoFault}
 use Rattle.py_flat.specs.declared.fault.IoFault.TheVariants as fault
 use Rattle.py_flat.specs.declared.life.Life.TheVariants as life
@@ -18,19 +18,16 @@ use Rattle.py_stream.specs.Writing.{NoneAtPlace}
 use Rattle.py_stream.specs.Settling.{PassesJust}
 use Rattle.py_stream.proofs.PassingOn.{laid_there, lays_some}
 use Rattle.py_window.specs.Window.{WindowView, IsWindow, pending_of, passed_on, flat_over}
-use Rattle.py_engine.specs.Engine.{EngineView, stream_of, HasShape, HoldsRead, Stands, IsBehind}
+use Rattle.py_engine.specs.Engine.{EngineView, stream_of, HasShape, HoldsRead, Stands}
 use Rattle.py_engine.specs.declared.data.passing_on.Passed.TheVariants as passing
 use Rattle.py_engine.specs.Passing.{FailsPassing, WaitsPassing, DrainOutcome}
 use Rattle.py_window.proofs.Collecting.{shows_itself, passed_shows}
+use Rattle.py_window.proofs.Overlaying.{pending_many}
 use Rattle.py_engine.proofs.Standing.{is_sound}
 use Rattle.py_engine.proofs.Stepping.{engine_of, Gives}
 use Rattle.py_stream.proofs.Pieces.{some_taken}
 
 -- A window of whose pending bytes some were passed on.
-
--- how many bytes are pending
-pub pending_many : (window : WindowView) → IsWindow window → length (pending_of window) ≡ window.to - window.from
-pending_many window is = length-take-le (window.to - window.from) (drop window.from window.held) (omega (arith, is.ordered, is.within, length-drop window.from window.held))
 
 -- where nothing is pending, the empty range stands at the cursor
 pub none_at_cursor : (window : WindowView) → IsWindow window → pending_of window ≡ [] → window.from ≡ window.to
@@ -131,12 +128,6 @@ module _ (old : EngineView) (raw : Raw) (count : ℕ) (is : Stands old) (writes 
     told = λ tells lives. let told : IsTrue (tells_of old.raw) = subst IsTrue (tells_still old.raw raw keeps) tells in holds_still old.access old.raw.bytes raw.bytes old.window (passed_on count old.window) writes refl refl (flat told) (is.told told live);
   }
 
-  -- it takes bytes behind those that it owes, if it did
-  pub drained_behind : IsBehind old → IsBehind drained
-  drained_behind behind =
-      let shows = passed_shows old.window count old.window.size (stream_of old).owed.place (pending_of old.window) wrote.fits (shows_itself old.window is.window_is behind.owes.collects) in
-      record { writes = writes; owes = record { collects = shows.collects; stands = omega (arith, there, shows.place_is) } }
-
   pub drained_just : PassesJust (stream_of old) (stream_of drained)
   drained_just = record {
     kept = record { raw = keeps; stays = stays; reads = wrote.reads; buffer = refl; can = ap (can_of old.access) keeps.seekable; short = refl; sound = is_sound drained drained_stands };
@@ -182,10 +173,6 @@ waits_passing old raw is live some keeps stays waits =
       some = some;
     }
 
--- an engine that failed stands as each does
-stands_failed : (old : EngineView) (raw : Raw) → Stands old → Stands (record old { raw = raw; life = life.Failed })
-stands_failed old raw is = grind arith
-
 fails_passing : (old : EngineView) (raw : Raw) → Stands old → old.life ≡ life.Live → old.raw_place ≡ (stream_of old).owed.place → 0 < length (pending_of old.window) → Keeps old.raw raw → StaysOpen old.raw raw → FailsGiven old.raw (pending_of old.window) raw → FailsPassing (stream_of old) (stream_of (record old { raw = raw; life = life.Failed }))
 fails_passing old raw is live there some keeps stays fails =
     let failed : EngineView = record old { raw = raw; life = life.Failed } in
@@ -194,7 +181,7 @@ fails_passing old raw is live there some keeps stays fails =
     (told.0, told.1, told.2 ∙ ap (λ (place : ℕ). lay old.raw.bytes place (take told.0 (pending_of old.window))) (is.stands (tells_its_place old.raw tells) live ∙ there)) in
     record {
       passes = record {
-        kept = record { raw = keeps; stays = stays; reads = fails.reads; buffer = refl; can = ap (can_of old.access) keeps.seekable; short = refl; sound = is_sound failed (stands_failed old raw is) };
+        kept = record { raw = keeps; stays = stays; reads = fails.reads; buffer = refl; can = ap (can_of old.access) keeps.seekable; short = refl; sound = is_sound failed (grind arith) };
         passed = 0;
         within = omega arith;
         answered = fails.written;
@@ -231,14 +218,6 @@ module _ (live : LiveView) (at : ℕ) (window : WindowView) (new : LiveView) (is
       let more : 0 < count = some_taken (pending_of window) count some gave.0.1 in
       subst (λ (seen : LiveView). Stands (engine_of seen (at + count) (passed_on count window))) (sym gave.1)
       (drained_stands (engine_of live at window) new.raw count is writes lives there keeps stays more gave.0.0)
-
-  -- it takes bytes behind those that it owes, if it did
-  pub drains_behind : (piece : List ℕ) (count : ℕ) → piece ≡ pending_of window → Gives live piece (Ok (Some count)) new → IsBehind (engine_of live at window) → IsBehind (engine_of new (at + count) (passed_on count window))
-  drains_behind piece count same gives behind =
-      let gave : Gives live (pending_of window) (Ok (Some count)) new = subst (λ (all : List ℕ). Gives live all (Ok (Some count)) new) same gives in
-      let more : 0 < count = some_taken (pending_of window) count some gave.0.1 in
-      subst (λ (seen : LiveView). IsBehind (engine_of seen (at + count) (passed_on count window))) (sym gave.1)
-      (drained_behind (engine_of live at window) new.raw count is writes lives there keeps stays more gave.0.0 behind)
 
   -- the raw would have blocked
   pub drains_none : (piece : List ℕ) → Gives live piece (Ok None) new → DrainOutcome (stream_of (engine_of live at window)) (Ok passing.Waits) (stream_of (engine_of new at window))

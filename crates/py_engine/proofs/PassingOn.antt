@@ -1,5 +1,5 @@
 -- Passing on what a stream owes, transfer by transfer.
-use Rattle.std.proofs.Common.{[], ◌≡◌, ℕ, ◌<◌, IsTrue, Bool, true, List, length, drop, Ok, Err, refl, ap, sym, ◌∙◌, subst, arith, length-drop}
+use Rattle.std.proofs.Common.{[], ◌≡◌, ℕ, ◌<◌, IsTrue, Bool, true, List, length, Ok, Err, refl, ap, sym, ◌∙◌, subst, arith, length-drop}
 use Rattle.py_flat.specs.declared.fault.IoFault.{IoFault}
 use Rattle.py_flat.specs.declared.fault.IoFault.TheVariants as fault
 use Rattle.py_flat.specs.declared.life.Life.TheVariants as life
@@ -25,12 +25,9 @@ pub record PassesSoFar (old now : Stream) : Type 0 where
 pub passes_none : (old : Stream) → IsSound old → old.life ≡ life.Live → NoneAtPlace old → StandsAtOwed old → PassesSoFar old old
 passes_none old sound live at there = record { just = just_none old sound live at; no_wait = λ _. refl; there = there }
 
-some_before : (bytes : List ℕ) (count : ℕ) → 0 < length (drop count bytes) → 0 < length bytes
-some_before bytes count some = omega (arith, some, length-drop count bytes)
-
 -- where the raw stands once some was passed on
 stands_still : (now new : Stream) → StandsAtOwed now → PassesJust now new → StandsAtOwed new
-stands_still now new there just some = omega (arith, just.raw_place, there (some_before now.owed.bytes just.passed (subst (λ (bytes : List ℕ). 0 < length bytes) just.owed some)), just.place (λ none. omega (arith, some, ap length none)))
+stands_still now new there just some = omega (arith, just.raw_place, there (omega (arith, subst (λ (bytes : List ℕ). 0 < length bytes) just.owed some, length-drop just.passed now.owed.bytes)), just.place (λ none. omega (arith, some, ap length none)))
 
 -- one more transfer of what is owed went
 pub passes_more : (old now new : Stream) → PassesSoFar old now → DrainOutcome now (Ok passing.All) new → PassesSoFar old new

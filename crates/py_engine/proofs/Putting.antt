@@ -1,19 +1,16 @@
 -- Taking the bytes of a call: into the buffer, or straight to the raw.
-use Rattle.std.proofs.Common.{[], ◌≡◌, ℕ, ◌+◌, ◌<◌, ◌≤◌, Bool, true, false, List, ◌++◌, length, take, drop, Option, None, Some, Result, Ok, Err, sym, ap, ◌∙◌, subst, arith, length-append}
+use Rattle.std.proofs.Common.{[], ◌≡◌, ℕ, ◌+◌, ◌≤◌, Bool, true, false, List, ◌++◌, length, take, drop, Option, None, Some, Result, Ok, Err, sym, ap, ◌∙◌, subst, arith, length-append}
 use Rattle.std.proofs.Math.Seq.{take-nil}
-use Rattle.std.proofs.lemmas.List.{take-append-le, take_all, drop_all, length-drop, drop-drop, append-nil}
+use Rattle.std.proofs.lemmas.List.{take-append-le, take_all, drop_all, drop-drop, append-nil}
 use Rattle.py_flat.specs.declared.fault.IoFault.{IoFault}
 use Rattle.py_flat.specs.declared.fault.IoFault.TheVariants as fault
 use Rattle.py_flat.specs.Causes.{Rose}
 use Rattle.py_stream.specs.Stream.{Stream}
 use Rattle.py_stream.specs.Writing.{OwesBehind, OwesRest, OwesOld}
-use Rattle.py_stream.specs.Taking.{Calm, WaitsAsOne, Took, TookAll, FailsTaking, Lacks, KeepsBehind, KeepsWhatFits, PutOutcome}
+use Rattle.py_stream.specs.Taking.{Calm, WaitsAsOne, Took, TookAll, FailsTaking, Lacks, PutOutcome}
 use Rattle.py_stream.proofs.Taking.{take_behind, took_then, took_on, fails_then, fails_more, starves_then, waited_then, waited_before}
 use Rattle.py_stream.proofs.Putting.{put_then}
-use Rattle.py_stream.proofs.Flat.{fails_ends, took_ends, took_none_ends}
-use Rattle.py_window.specs.Window.{pending_of, room_of}
-use Rattle.py_engine.specs.Engine.{EngineView, stream_of, Stands, IsBehind}
-use Rattle.py_engine.proofs.Draining.{pending_many}
+use Rattle.py_stream.proofs.Flat.{fails_ends, took_none_ends}
 use Rattle.py_engine.specs.Passing.{FlushOutcome, HandOnOutcome, FitOutcome, StopOutcome, room_behind}
 use Rattle.py_engine.proofs.PassingOn.{flush_lacks, flush_fails}
 
@@ -62,28 +59,6 @@ owes_then old mid new first owes = record {
 }
 
 -- Putting one piece.
-
--- an engine that takes bytes behind those that it owes holds none behind its place
-held_to : (engine : EngineView) → IsBehind engine → (stream_of engine).held.to ≡ (stream_of engine).place
-held_to engine behind = omega (arith, behind.owes.collects.end)
-
--- bytes that were taken, of which the raw got none, are kept
-pub kept_whole : (old new : EngineView) (bytes : List ℕ) → IsBehind old → IsBehind new → Took (stream_of old) bytes (stream_of new) → length (pending_of new.window) ≡ length (pending_of old.window) + length bytes → new.raw ≡ old.raw → KeepsBehind (stream_of old) bytes (stream_of new)
-kept_whole old new bytes old_behind new_behind took more same =
-    let was : List ℕ = pending_of old.window in
-    let none : took.passed ≡ 0 = omega (arith, took.within, more, ap length took.owed, length-drop took.passed (was ++ bytes), length-append was bytes) in
-    let place : (stream_of new).place ≡ (stream_of old).place + length bytes = took_ends (stream_of old) (stream_of new) bytes took in
-    record {
-      raw = same;
-      buffer = took.kept.buffer;
-      owed = took.owed ∙ ap (λ (passed : ℕ). drop passed (was ++ bytes)) none;
-      forth = omega (arith, place);
-      held = omega (arith, place, held_to old old_behind, held_to new new_behind);
-    }
-
--- bytes for which the window has no room behind what is owed have none in the buffer
-pub put_roomless : (old : EngineView) (bytes : List ℕ) (room : ℕ) (result : Result Bool IoFault) (new : Stream) → Stands old → IsBehind old → room ≡ room_of old.window → room < length bytes → KeepsWhatFits (stream_of old) bytes result new
-put_roomless old bytes room result new is behind at less fits = absurd (omega (arith, at, less, fits.room, pending_many old.window is.window_is, behind.owes.collects.to))
 
 -- a piece is put after a passing on of what was owed before
 pub put_behind : (old mid new : Stream) (bytes : List ℕ) (start : ℕ) (result : Result Bool IoFault) → TookAll old [] mid → PutOutcome mid bytes start result new → PutOutcome old bytes start result new

@@ -32,27 +32,22 @@ use Rattle.py_flat.specs.Lines.{joined, lines_of, until_above}
 use Rattle.py_stream.proofs.ReadingOn.{wants_past}
 use Rattle.py_stream.proofs.SingleReading.{asks_for, moves_by}
 use Rattle.py_engine.proofs.SingleReading.{asks_some, moved_to_ready, answered_reads, advanced_reads, once_failed, once_unready, once_held, once_looked, once_starved}
-use Rattle.py_stream.proofs.Begun.{answers_whole}
 use Rattle.py_stream.proofs.Refusing.{refused_alone}
 use Rattle.py_stream.proofs.ReadingCalls.{reading_call, in_hand_held}
 use Rattle.py_stream.proofs.ReadingAnswers.{accepted, reading_refused}
 use Rattle.py_stream.proofs.Holding.{asks_nothing_answers, single_reads, held_answers, held_answers_told, held_answers_once, held_peek, reading_lacks, ReadsHeld, HasToPass, reading_suits, reading_blocked, reading_failed, reading_starved}
 use Rattle.py_stream.proofs.Settled.{settled_reads}
-use Rattle.py_window.specs.Window.{WindowView, IsWindow, place_of, end_of, ahead_of, advanced, flat_over, HoldsBytes}
+use Rattle.py_window.specs.Window.{WindowView, IsWindow, place_of, ahead_of, advanced, flat_over, HoldsBytes}
 use Rattle.py_engine.specs.Engine.{EngineView, stream_of, Stands, IsEngine, HasShape, HoldsRead, BeginOutcome}
 use Rattle.py_engine.specs.Reading.{reading_of, AnswersSized, IsReading, ReadyOutcome}
 use Rattle.py_engine.specs.Random.{GoesToRaw, AnswersFrom, WentAhead, GoesAhead, WantsPast, gave, AnswersSome, AnswersOnce, AnswersFirst, OnceOutcome, SomeOutcome}
 use Rattle.py_engine.proofs.Transfers.{bytes_ahead}
-use Rattle.py_engine.proofs.Standing.{is_placed, is_sound, owes_nothing, none_over, reads_alone, reads_both}
+use Rattle.py_engine.proofs.Standing.{is_placed, is_sound, owes_nothing, none_over}
 use Rattle.py_engine.proofs.Seen.{readable, same_stream}
-use Rattle.py_engine.proofs.Draining.{none_at_cursor, pending_many}
-use Rattle.py_engine.proofs.Calls.{begins, stands_whole}
+use Rattle.py_window.proofs.Overlaying.{pending_many}
+use Rattle.py_engine.proofs.Calls.{begins, stands_whole, answers_from_begun}
 
 -- How a reading begins.
-
--- what answers the engine with which a call begins answers the one that was
-pub answers_from_begun : (old begun : EngineView) (call : FileCall) (reply : FileReply) (after : Stream) → BeginOutcome old (Ok tt) begun → Answers (stream_of begun) call reply after → Answers (stream_of old) call reply after
-answers_from_begun old begun call reply after began answers = answers_whole (stream_of old) after call reply (subst (λ (engine : EngineView). Answers (stream_of engine) call reply after) began.1 answers)
 
 -- the life refuses a reading
 pub begins_not : (old new : EngineView) (call : FileCall) (why : IoFault) → is_reading call ≡ true → Stands old → BeginOutcome old (Err why) new → Answers (stream_of old) call (Refused why) (stream_of new)
@@ -101,31 +96,15 @@ module _ (old new : EngineView) (is : Stands old) (opened : old.access ≡ acces
 
 -- Whether a reading goes on from the bytes held.
 
--- it does, where nothing is owed and the raw stands after them
-pub ahead_reads : (engine : EngineView) → Stands engine → is_read engine.access ≡ true → engine.window.from ≡ engine.window.to → engine.raw_place ≡ end_of engine.window → IsReading engine
-ahead_reads engine is reads settled stands = grind (arith, reads_alone, reads_both)
-
--- it doesn't else
-pub ahead_not : (engine : EngineView) → Stands engine → is_read engine.access ≡ true → ((engine.window.from ≡ engine.window.to) → engine.raw_place ≡ end_of engine.window → ⊥) → IsAhead (stream_of engine) → ⊥
-ahead_not engine is reads not ahead = grind (arith, none_at_cursor)
-
 -- what a reading from there answers
 pub reads_seen : (old new : EngineView) (call : FileCall) (reply : FileReply) → IsReading old → IsReading new → Answers (reading_of old) call reply (reading_of new) → Answers (stream_of old) call reply (stream_of new)
 reads_seen old new call reply is now answers = subst (λ (after : Stream). Answers (stream_of old) call reply after) (sym (same_stream new now)) (subst (λ (before : Stream). Answers before call reply (reading_of new)) (sym (same_stream old is)) answers)
 
 -- A cursor that moves on over bytes held, whatever is pending.
 
--- the window is one still
-pub window_moved : (window : WindowView) (count : ℕ) → IsWindow window → count ≤ length (ahead_of window) → IsWindow (advanced count window)
-window_moved window count is fits = grind (arith, length-drop)
-
 -- the flat bytes are as they were
 pub flat_moved : (bytes : List ℕ) (window : WindowView) (count : ℕ) → flat_over bytes (advanced count window) ≡ flat_over bytes window
 flat_moved bytes window count = grind arith
-
--- an engine that reads has the shape that it had
-shape_moved : (opened : Access) (raw_place : ℕ) (window : WindowView) (count : ℕ) → is_read opened ≡ true → HasShape opened raw_place window → HasShape opened raw_place (advanced count window)
-shape_moved opened raw_place window count reads shape = grind arith
 
 -- and holds what it held
 holds_moved : (opened : Access) (bytes : List ℕ) (window : WindowView) (count : ℕ) → is_read opened ≡ true → HoldsRead opened bytes window → HoldsRead opened bytes (advanced count window)
@@ -137,10 +116,10 @@ holds_moved access.Append bytes window count reads holds = tt
 -- so it stands as each does
 pub stands_moved : (raw : Raw) (raw_place : ℕ) (window : WindowView) (opened : Access) (current : Life) (count : ℕ) → is_read opened ≡ true → count ≤ length (ahead_of window) → IsEngine raw raw_place window opened current → IsEngine raw raw_place (advanced count window) opened current
 stands_moved raw raw_place window opened current count reads fits is = record {
-  window_is = window_moved window count is.window_is fits;
+  window_is = grind (arith, length-drop);
   is_open = is.is_open;
   attached = is.attached;
-  shape = shape_moved opened raw_place window count reads is.shape;
+  shape = grind arith;
   stands = is.stands;
   told = λ tells live. holds_moved opened raw.bytes window count reads (is.told tells live);
 }
@@ -258,14 +237,6 @@ short_past (Some (suc hint)) bytes (inr within) more some =
     (λ (above : suc hint < 0 + length (joined (until_above (suc hint) 0 (lines_of (bytes ++ more))))). omega (arith, above, within))
     (λ (all : until_above (suc hint) 0 (lines_of (bytes ++ more)) ≡ lines_of (bytes ++ more)). subst (λ (lines : List (List ℕ)). length bytes < length (joined lines)) (sym all) (all_past bytes more some))
     (until_all (suc hint) 0 (lines_of (bytes ++ more))))
-
--- a collector that had no lines, and took all of a piece, wants more than that
-pub lines_past : (view : LinesView) (after : List ℕ) (hint : Option ℕ) (bytes : List ℕ) → IsNewLines hint view → WantsMore (lines_wanted view) (lines_collected view) bytes after → WantsPast (wanted_by (ReadLines hint)) bytes
-lines_past view after hint bytes none has =
-    let empty : lines_collected view ≡ [] = ap (λ (some : List (List ℕ)). joined some ++ view.part) none.0 ∙ none.1 in
-    let all : after ≡ bytes = has.takes ∙ ap (λ (before : List ℕ). before ++ bytes) empty in
-    λ more some. subst (λ (most : Option ℕ). length bytes < length (wanted_by (ReadLines most) (bytes ++ more))) none.2
-    (subst (λ (front : List ℕ). length front < length (lines_wanted view (front ++ more))) all (has.asks more some))
 
 -- A reading that began.
 
@@ -408,15 +379,11 @@ failed_reads old new fault.RawFault is fails = fails.0.kept.is
 failed_reads old new fault.NoMemory is wants = subst IsReading (sym wants.1) is
 failed_reads old new why is never = absurd never
 
--- where some are held, a call that needn't pass on first doesn't
-needs_none : (engine : EngineView) → 0 < length (ahead_of engine.window) → ahead (stream_of engine) ≡ 0 → ⊥
-needs_none engine some none = omega (arith, some, none, length-drop engine.window.cursor engine.window.held)
-
 -- the bytes held answer a call that needn't pass on first
 pub some_now : (engine : EngineView) (wanted : ℕ) → Stands engine → is_read engine.access ≡ true → BeginOutcome engine (Ok tt) engine → wanted ≢ 0 → 0 < length (ahead_of engine.window) → AnswersSome engine wanted engine
 some_now engine wanted is reads began asks some = record {
   reads = reads;
-  readinto1 = once_given engine engine is reads began (gave wanted engine) (ReadInto1 wanted) wanted (take wanted (ahead_of engine.window)) refl refl refl asks (some, λ none. absurd (needs_none engine some none)) refl refl;
+  readinto1 = once_given engine engine is reads began (gave wanted engine) (ReadInto1 wanted) wanted (take wanted (ahead_of engine.window)) refl refl refl asks (some, λ none. absurd (omega (arith, some, none, length-drop engine.window.cursor engine.window.held))) refl refl;
   look = λ _. held_shown engine engine is reads began some;
 }
 

@@ -18,25 +18,23 @@ use Rattle.py_stream.specs.Kinds.{is_writing}
 use Rattle.py_stream.specs.Answers.{Answers}
 use Rattle.py_stream.specs.Writing.{OwesBehind, IsFull, first_of_both, owed_from, HasRoom}
 use Rattle.py_stream.specs.Held.{KeepsBoth, OwesHeld}
-use Rattle.py_stream.specs.Settling.{PassesSome, LivesOn, SettleOutcome}
-use Rattle.py_stream.proofs.Begun.{answers_whole}
+use Rattle.py_stream.specs.Settling.{PassesSome, SettleOutcome}
 use Rattle.py_stream.proofs.Given.{writing_refused}
 use Rattle.py_stream.proofs.Giving.{writing_too_far, taken_reply}
 use Rattle.py_stream.proofs.Keeping.{MayKeep, accepts_kept, fits_answers, fits_after_wait, fills_after_wait, fills_with_none, stops_failed, stops_starved}
 use Rattle.py_stream.proofs.Owing.{owes_still}
 use Rattle.py_stream.proofs.Settled.{settled_writes}
 use Rattle.py_window.specs.Window.{WindowView, IsWindow, place_of, pending_of, owed_of, room_of, pushed, all_pending, flat_over, HoldsBytes}
-use Rattle.py_window.proofs.Overlaying.{first_is, none_rests, Overlays, FollowsOn, overlays, full}
+use Rattle.py_window.proofs.Overlaying.{pending_many, first_is, none_rests, Overlays, FollowsOn, overlays, full}
 use Rattle.py_window.proofs.Owning.{from_first, to_cursor, holds_many, all_of_it, all_many, is_some, goes_up, all_was, flat_same, is_window}
 use Rattle.py_engine.specs.Engine.{EngineView, stream_of, Stands, StandsAmong, HasShape, HoldsRead, IsBehind, BeginOutcome}
 use Rattle.py_engine.specs.RandomWriting.{GivesPlaced, WaitsOwing, GoesBehind, GivesOutcome, call_of, taken_all}
 use Rattle.py_engine.specs.declared.data.given.Given.{Given}
 use Rattle.py_engine.specs.declared.data.given.Given.TheVariants as gives
 use Rattle.py_engine.specs.Passing.{OwedOutcome}
-use Rattle.py_engine.specs.declared.data.passing_on.Passed.TheVariants as passing
 use Rattle.py_engine.proofs.Standing.{is_placed, is_sound, owes_behind}
-use Rattle.py_engine.proofs.Draining.{none_at_cursor, none_at_place, pending_many}
-use Rattle.py_engine.proofs.Calls.{begins}
+use Rattle.py_engine.proofs.Draining.{none_at_cursor, none_at_place}
+use Rattle.py_engine.proofs.Calls.{begins, answers_from_begun}
 
 -- Where an engine that is read and written stands.
 
@@ -238,22 +236,14 @@ gives_not old new call why writing is began = writing_refused (stream_of old) (s
 pub gives_past : (old begun : EngineView) (call : FileCall) → is_writing call ≡ true → Stands old → old.access ≡ access.Update → BeginOutcome old (Ok tt) begun → greatest_place < place_of begun.window + length (payload call) → Answers (stream_of old) call (Refused fault.TooFar) (stream_of begun)
 gives_past old begun call writing is opened began past = writing_too_far (stream_of old) (stream_of begun) call writing (is_placed old is) (ap is_written opened) (begins old begun (Ok tt) began) (subst (λ (engine : EngineView). greatest_place < place_of engine.window + length (payload call)) began.1 past)
 
--- what answers the engine with which a call begins answers the one that was
-pub from_begun : (old begun : EngineView) (call : FileCall) (reply : FileReply) (after : Stream) → BeginOutcome old (Ok tt) begun → Answers (stream_of begun) call reply after → Answers (stream_of old) call reply after
-from_begun old begun call reply after began answers = answers_whole (stream_of old) after call reply (subst (λ (engine : EngineView). Answers (stream_of engine) call reply after) began.1 answers)
-
 -- Passing all on for a call that gives bytes.
-
--- where nothing is owed, by one that takes bytes behind those that it owes
-nothing_behind : (stream : Stream) → OwesBehind stream → stream.owed.bytes ≡ [] → stream.owed ≡ nothing_owed stream.place
-nothing_behind stream behind none = grind arith
 
 module _ (old new : EngineView) (is : Stands old) (opened : old.access ≡ access.Update) (live : old.life ≡ life.Live) (whole : old.short ≡ false) where
   pub goes_on_behind : Stands new → IsBehind new → SettleOutcome (stream_of old) (Ok tt) (stream_of new) → GoesBehind old (Ok true) new
   goes_on_behind now behind settled call reply after gives answers =
       let may : MayKeep (stream_of old) call = may_keep old call is opened live whole gives.writing gives.within in
       let owes : OwesBehind (stream_of new) = owes_behind new now behind in
-      let none : (stream_of new).owed ≡ nothing_owed (stream_of new).place = nothing_behind (stream_of new) owes settled.2 in
+      let none : (stream_of new).owed ≡ nothing_owed (stream_of new).place = grind arith in
       settled_writes (stream_of old) (stream_of new) after call reply gives.writing (record {
         settled = record { live = live; writes = may.gives.can; buffered = refl; accepted = accepts_kept (stream_of old) call may; settled_by = settled };
         roomless = gives.roomless;
@@ -261,11 +251,7 @@ module _ (old new : EngineView) (is : Stands old) (opened : old.access ≡ acces
         stands = omega (arith, owes.stands, owes.ends, ap length settled.2);
       }) answers
 
-  -- the raw would have blocked
-  pub goes_waiting : OwedOutcome (stream_of old) (Ok passing.Waits) (stream_of new) → GoesBehind old (Ok false) new
-  goes_waiting waits = record { goes = subst (λ (short : Bool). LivesOn (stream_of old) (record (stream_of new) { short = short })) (sym waits.1) waits.0.1; waited = waits.0.3; some = waits.0.5 }
-
-  -- it failed, or memory ran out
+  -- the raw failed, or memory ran out
   pub goes_refused : (why : IoFault) → OwedOutcome (stream_of old) (Err why) (stream_of new) → GoesBehind old (Err why) new
   goes_refused fault.RawFault fails call gives = stops_failed (stream_of old) (stream_of new) call (may_keep old call is opened live whole gives.writing gives.within) gives.roomless fails
   goes_refused fault.NoMemory lacks call gives = stops_starved (stream_of old) (stream_of new) call (may_keep old call is opened live whole gives.writing gives.within) gives.roomless lacks
@@ -329,9 +315,9 @@ says_all (gives.Lines lines) = refl
 
 -- what answers the engine with which a call begins answers the one that was
 pub begun_gives : (old begun after : EngineView) (given : Given) (result : Result Bool IoFault) → BeginOutcome old (Ok tt) begun → GivesOutcome begun given result after → GivesOutcome old given result after
-begun_gives old begun after given (Ok true) began answers = from_begun old begun (call_of given) (taken_all given) (stream_of after) began answers
-begun_gives old begun after given (Ok false) began answers = λ reply left behind. from_begun old begun (call_of given) reply left began (answers reply left behind)
-begun_gives old begun after given (Err why) began answers = from_begun old begun (call_of given) (Refused why) (stream_of after) began answers
+begun_gives old begun after given (Ok true) began answers = answers_from_begun old begun (call_of given) (taken_all given) (stream_of after) began answers
+begun_gives old begun after given (Ok false) began answers = λ reply left behind. answers_from_begun old begun (call_of given) reply left began (answers reply left behind)
+begun_gives old begun after given (Err why) began answers = answers_from_begun old begun (call_of given) (Refused why) (stream_of after) began answers
 
 -- the life refuses it, or its bytes would end past the greatest place
 pub given_not : (old new : EngineView) (given : Given) (why : IoFault) → Stands old → BeginOutcome old (Err why) new → GivesOutcome old given (Err why) new

@@ -15,7 +15,7 @@ use Rattle.py_stream.specs.Answers.{moves_back}
 use Rattle.py_stream.specs.Writing.{OwesBehind}
 use Rattle.py_stream.specs.Settling.{PassesSome, LivesOn, FailsBack, SettleOutcome}
 use Rattle.py_stream.specs.Moving.{MovesRaw, MoveRawOutcome}
-use Rattle.py_stream.proofs.PassingOn.{passes_nothing, LeavesOwed, moves_still, settles_then}
+use Rattle.py_stream.proofs.PassingOn.{passes_nothing, moves_still, settles_then}
 use Rattle.py_stream.proofs.Taking.{keeps_itself, keeps_then, answers_still, faulted_then}
 use Rattle.py_stream.proofs.Going.{passes_still}
 use Rattle.py_window.specs.Window.{WindowView, place_of, end_of, ended_at, HoldsBytes}
@@ -30,13 +30,9 @@ use Rattle.py_engine.proofs.Draining.{none_at_cursor, none_at_place}
 
 -- Before: the raw stands where what is owed begins.
 
--- the raw was moved there
-moved_leaves : (old mid : Stream) → MovesRaw old old.owed.place mid → LeavesOwed old mid
-moved_leaves old mid moves = grind arith
-
 -- all was passed on once it stands there
 pub settles_moved : (old mid new : Stream) (result : Result (Unit {0}) IoFault) → MovesRaw old old.owed.place mid → SettleOutcome mid result new → SettleOutcome old result new
-settles_moved old mid new result moves settles = settles_then old mid new result (moved_leaves old mid moves) settles
+settles_moved old mid new result moves settles = settles_then old mid new result (grind arith) settles
 
 -- an engine that stays as it is passed nothing on
 pub stays_itself : (engine : EngineView) → Stands engine → PassesSome (stream_of engine) (stream_of engine)
@@ -103,14 +99,10 @@ passes_all access.Write old new result writes passed = passed
 passes_all access.Append old new result writes passed = passed
 passes_all access.Update old new result writes passed = passed
 
--- a stream that is opened to be read and written has to move its raw back
-update_moves : (engine : EngineView) → engine.access ≡ access.Update → moves_back (stream_of engine) ≡ true
-update_moves engine opened = grind arith
-
 -- all was passed on, and the raw is to stand after the bytes held
 pub settles_by_aligning : (old mid new : EngineView) (result : Result (Unit {0}) IoFault) → SettleOutcome (stream_of old) (Ok tt) (stream_of mid) → mid.access ≡ access.Update → AlignsOutcome (stream_of mid) result (stream_of new) → SettleOutcome (stream_of old) result (stream_of new)
 settles_by_aligning old mid new (Ok done) settled opened aligns = settles_here (stream_of old) (stream_of mid) (stream_of new) settled aligns
-settles_by_aligning old mid new (Err why) settled opened aligns = settles_not_here (stream_of old) (stream_of mid) (stream_of new) why (end_of mid.window) settled (λ _. record { moves = update_moves mid opened; elsewhere = λ same. omega (arith, aligns.1, same) }) aligns.0
+settles_by_aligning old mid new (Err why) settled opened aligns = settles_not_here (stream_of old) (stream_of mid) (stream_of new) why (end_of mid.window) settled (λ _. record { moves = grind arith; elsewhere = λ same. omega (arith, aligns.1, same) }) aligns.0
 
 -- Letting go of the bytes held after the raw.
 

@@ -9,7 +9,7 @@ use Rattle.py_flat.specs.Owed.{Owed}
 use Rattle.py_flat.specs.Limits.{greatest_place}
 use Rattle.py_stream.specs.declared.access.Access.{Access}
 use Rattle.py_stream.specs.declared.access.Access.TheVariants as access
-use Rattle.py_stream.specs.Access.{can_of, is_read}
+use Rattle.py_stream.specs.Access.{can_of}
 use Rattle.py_stream.specs.Stream.{nothing_owed}
 use Rattle.py_stream.specs.Answers.{IsNear}
 use Rattle.py_stream.specs.Keeping.{IsSound}
@@ -23,18 +23,11 @@ use Rattle.py_window.proofs.Collecting.{pending_ends}
 
 -- How near the raw stands to the place.
 
--- what is pending lies among the bytes held
-pending_within : (window : WindowView) → IsWindow window → window.begin + window.from + length (pending_of window) ≤ end_of window
-pending_within window is = omega (arith, is.ordered, is.within, length-take (window.to - window.from) (drop window.from window.held), length-drop window.from window.held)
-
 -- how far from the place the raw stands
 record NearWindow (engine : EngineView) : Type 0 where
   read_ahead : (can_of engine.access engine.raw.seekable).writable ≡ false → end_of engine.window ≡ engine.raw_place
   ahead : engine.raw_place ≤ place_of engine.window + engine.window.size
   behind : place_of engine.window ≤ engine.raw_place + engine.window.size
-
-near_window : (engine : EngineView) → Stands engine → NearWindow engine
-near_window engine is = grind arith
 
 -- where some is pending, the raw doesn't stand before the first of it
 before_raw : (opened : Access) (raw_place : ℕ) (window : WindowView) → HasShape opened raw_place window → window.from < window.to → window.begin + window.from ≤ raw_place
@@ -52,13 +45,13 @@ owed_before_raw engine is some = ⊎_elim
 pub is_near : (engine : EngineView) → Stands engine → engine.life ≡ life.Live → IsNear (stream_of engine)
 is_near engine is live =
     let window : WindowView = engine.window in
-    let near : NearWindow engine = near_window engine is in
+    let near : NearWindow engine = grind arith in
     record {
       after_first = omega arith;
       before_end = omega (arith, is.window_is.cursor);
       fits = omega (arith, is.window_is.held);
       owed_after_first = omega arith;
-      owed_before_end = pending_within window is.window_is;
+      owed_before_end = omega (arith, is.window_is.ordered, is.window_is.within, length-take (window.to - window.from) (drop window.from window.held), length-drop window.from window.held);
       owed_before_raw = owed_before_raw engine is;
       read_ahead = near.read_ahead;
       ahead = near.ahead;
@@ -147,11 +140,3 @@ stands_reading engine is = grind (arith, none_over)
 -- an engine that is opened to be read and not written reads on from the bytes held
 pub reads_alone : (engine : EngineView) → Stands engine → engine.access ≡ access.Read → IsReading engine
 reads_alone engine is opened = grind arith
-
--- so does one that is opened for both, where it owes nothing and its raw stands after the bytes held
-pub reads_both : (engine : EngineView) → Stands engine → engine.access ≡ access.Update → engine.window.from ≡ engine.window.to → engine.raw_place ≡ end_of engine.window → IsReading engine
-reads_both engine is opened settled stands = grind (arith, none_over)
-
--- an engine that takes bytes behind those that it owes
-pub writes_alone : (engine : EngineView) → Stands engine → is_read engine.access ≡ false → IsBehind engine
-writes_alone engine is opened = grind arith

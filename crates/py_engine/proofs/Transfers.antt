@@ -40,10 +40,6 @@ held_next raw window count within fits told = sym (take-take count (length (ahea
 keeps_at : (old : EngineView) (window : WindowView) (current : Life) → window.size ≡ old.window.size → IsReading (record old { window = window; life = current }) → KeepsEngine old (record old { window = window; life = current })
 keeps_at old window current size is = record { raw = keeps_same old.raw; stays = refl; bytes = λ tells. refl; written = λ tells. refl; size = size; access = refl; short = refl; is = is }
 
--- an engine that stays as it is keeps all
-pub keeps_self : (engine : EngineView) → IsReading engine → KeepsEngine engine engine
-keeps_self engine is = keeps_at engine engine.window engine.life refl is
-
 -- two steps, one after the other, keep what each keeps
 pub keeps_then : (old mid new : EngineView) → KeepsEngine old mid → KeepsEngine mid new → KeepsEngine old new
 keeps_then old mid new first second = grind (arith, Keeps-then)

@@ -14,8 +14,8 @@ use Rattle.py_raw.specs.RawStream.{tells, WhereTold, AnswersFor, StaysOpen}
 use Rattle.py_raw.proofs.Telling.{tells_still, tells_its_bytes}
 use Rattle.py_stream.specs.Stream.{Stream, buffering_of, nothing_owed}
 use Rattle.py_stream.specs.Kinds.{is_reading, is_writing, is_single, makes_one, moves_raw, says_no_memory}
-use Rattle.py_stream.specs.Writing.{OwesBehind, LaysTaken, Takes, OwesSome, PassesFront, PassedOn, OwesBoth, PassesOn, LaysInOrder, BlocksFull, TookOwn, Writes}
-use Rattle.py_stream.specs.Answers.{Answers, Leaves, ClosedWith, parts_at_close, LifeMoves, GivesWithin, IsReplyTo, IsShort, AtMostOne, ReadsOnce, FlushesFirst, PassesFirst, SparesBytes, SeeksTo, SeeksFromEnd, UnlessStopped, EndMoves, SeeksByEnd, closes_again, refused_by}
+use Rattle.py_stream.specs.Writing.{OwesBehind, LaysTaken, OwesSome, PassesFront, PassedOn, OwesBoth, PassesOn, LaysInOrder, BlocksFull, TookOwn, Writes}
+use Rattle.py_stream.specs.Answers.{Answers, Leaves, ClosedWith, parts_at_close, LifeMoves, GivesWithin, AtMostOne, ReadsOnce, FlushesFirst, PassesFirst, SparesBytes, SeeksTo, SeeksFromEnd, UnlessStopped, EndMoves, SeeksByEnd, closes_again, refused_by}
 use Rattle.py_stream.specs.Buffer.{Buffer, buffer_of, taken_by, size_shown, LeavesBuffer, closes_twice, stream_shown, GivesAsked, GoesFromEnd, BufferSeeksFromEnd, BufferSeeksByEnd, BufferOwes, BufferPasses, BufferLays, BufferTakes, OwesAsItCan, is_made, AnswersAsBuffer}
 use Rattle.py_stream.proofs.Closing.{parts_not}
 use Rattle.py_stream.proofs.LeftOwed.{none_or_some}
@@ -78,11 +78,8 @@ both_so was taken before after bytes both = search (rules, some_so, both.owes)
 behind_so : (was : ℕ) (before : Stream) → OwesBehind (shown before was) → OwesBehind before
 behind_so was before behind = record { ends = behind.ends; stands = behind.stands }
 
-front_taken_so : (was taken : ℕ) (before after : Stream) (bytes : List ℕ) → Takes before bytes after → Takes (shown before was) bytes (shown after taken)
-front_taken_so was taken before after bytes takes = grind (arith, behind_so)
-
 owes_so : (was taken : ℕ) (before after : Stream) (call : FileCall) (reply : FileReply) → IsTrue (is_made call) → Writes before call reply after → BufferOwes (buffer_of before was) call (buffer_of after taken)
-owes_so was taken before after (Write bytes) reply made writes = record { both = both_so was taken before after bytes (writes.owes refl); takes = λ up_to. front_taken_so was taken before after bytes (writes.takes refl up_to) }
+owes_so was taken before after (Write bytes) reply made writes = record { both = both_so was taken before after bytes (writes.owes refl); takes = λ up_to. grind (arith, behind_so, writes.takes refl up_to) }
 owes_so was taken before after call reply made writes = grind (arith, front_so)
 
 -- a call that gives bytes to a stream, and leaves its places and, told, its raw's bytes
@@ -143,14 +140,7 @@ takes_so before after call owes = tt
 own_so : (was taken : ℕ) (before after : Stream) → TookOwn before after → TookOwn (shown before was) (shown after taken)
 own_so was taken before after own = record { further = own.further; stands = own.stands; answered = own.answered }
 
--- a stream that doesn't write refuses a write, and not as one that would have blocked
-unwritten_full : (taken : ℕ) (before : Stream) (call : FileCall) (reply : FileReply) (after : Stream) → before.can.writable ≡ false → IsTrue (is_made call) → Answers before call reply after → BlocksFull call reply (shown after taken)
-unwritten_full taken before call reply after can made answers = grind arith
-
-unwritten_takes : (before : Stream) (call : FileCall) (reply : FileReply) (after : Stream) → before.can.writable ≡ false → IsTrue (is_made call) → Answers before call reply after → BufferTakes call before.place after.place
-unwritten_takes before call reply after can made answers = grind arith
-
--- so a write leaves its place
+-- a write leaves the place of a stream that doesn't write
 unwritten_still : (before : Stream) (call : FileCall) (reply : FileReply) (after : Stream) → before.can.writable ≡ false → IsTrue (is_made call) → IsTrue (is_writing call) → Answers before call reply after → after.place ≡ before.place
 unwritten_still before call reply after can made writing answers = grind arith
 
@@ -173,14 +163,7 @@ record Passing (before : Buffer) (call : FileCall) (reply : FileReply) (after : 
 passing_of : (was taken : ℕ) (writes : Bool) (before after : Stream) (call : FileCall) (reply : FileReply) → before.can.writable ≡ writes → IsTrue (is_made call) → OwesAsItCan (buffer_of before was) → Answers before call reply after → Passing (buffer_of before was) call reply (buffer_of after taken)
 passing_of was taken true before after call reply can made owes answers =
     let writes = answers.writes can in
-    record {
-      owes = owes_so was taken before after call reply made writes;
-      lays = λ told. lays_so was taken before call after.raw.bytes made (writes.lays told);
-      passes = passes_so was taken before after call reply writes.passes;
-      full = full_so taken call reply after writes.full;
-      takes = takes_so before after call writes.owes;
-      starves = λ wanting writing fails. own_so was taken before after (writes.starves wanting writing fails);
-    }
+    search (rules, owes_so, lays_so, passes_so, full_so, takes_so, own_so)
 passing_of was taken false before after call reply can made owes answers =
     let none : before.owed ≡ nothing_owed before.place = owes can in
     let spares = answers.spares can none in
@@ -194,8 +177,8 @@ passing_of was taken false before after call reply can made owes answers =
         none = left;
         holds = λ told. same told ∙ sym (ap (λ (owed : Owed). lay before.raw.bytes owed.place owed.bytes) none);
       });
-      full = unwritten_full taken before call reply after can made answers;
-      takes = unwritten_takes before call reply after can made answers;
+      full = grind arith;
+      takes = grind arith;
       starves = λ wanting writing. absurd (let fed = unwritten_feeds before call reply after can made writing answers in cc);
     }
 
@@ -205,21 +188,13 @@ passing_of was taken false before after call reply can made owes answers =
 left_none : (before after : Buffer) (call : FileCall) → is_writing call ≡ false → before.owed.bytes ≡ [] → BufferOwes before call after → after.owed.bytes ≡ []
 left_none before after call writing none owes = grind arith
 
--- an answer that is short says that not all was passed on
-short_owes : (buffer : Option ℕ) (writes : Bool) (call : FileCall) (reply : FileReply) (after : Stream) (short : Bool) → is_reading call ≡ false → is_writing call ≡ false → IsTrue (is_made call) → IsReplyTo buffer writes call reply → IsShort call reply short → BlocksFull call reply after → after.owed.bytes ≡ [] → short ≡ false
-short_owes buffer writes call reply after short reads gives made answer shorts full none = grind arith
-
 unwaited_by : (refused : Option IoFault) (before after : Stream) (taken : ℕ) (call : FileCall) (reply : FileReply) → refused_by before call ≡ refused → is_reading call ≡ false → is_writing call ≡ false → IsTrue (is_made call) → Answers before call reply after → BlocksFull call reply (shown after taken) → after.owed.bytes ≡ [] → after.short ≡ false
 unwaited_by (Some why) before after taken call reply is reads gives made answers full none = ap (λ (stream : Stream). stream.short) (answers.refused why is).same
-unwaited_by None before after taken call reply is reads gives made answers full none = short_owes before.buffer before.can.writable call reply (shown after taken) after.short reads gives made (answers.answer is) answers.shorts full none
+unwaited_by None before after taken call reply is reads gives made answers full none = grind (arith, answers.answer is)
 
 -- The raw's closing.
 
--- a call that is let through is of a live stream
-lives_by : (before : Stream) (call : FileCall) → IsTrue (is_made call) → is_close call ≡ false → refused_by before call ≡ None → before.life ≡ life.Live
-lives_by before call made closes accepted = grind arith
-
--- and leaves one that isn't closed
+-- a call that is let through leaves a live stream that isn't closed
 left_open : (buffer : Option ℕ) (call : FileCall) (reply : FileReply) (after : Life) → IsTrue (is_made call) → is_close call ≡ false → LifeMoves buffer call reply life.Live after → is_closed after ≡ false
 left_open buffer call reply after made closes moves = grind arith
 
@@ -231,7 +206,7 @@ opens_by before after call reply made closes answers lives none closed =
 
 stays_by : (refused : Option IoFault) (before after : Stream) (call : FileCall) (reply : FileReply) → refused_by before call ≡ refused → IsTrue (is_made call) → is_close call ≡ false → Answers before call reply after → (after.owed.bytes ≢ [] → StaysOpen before.raw after.raw) → ClosedWith before.life before.raw → StaysOpen before.raw after.raw
 stays_by (Some why) before after call reply is made closes answers some closed = ap (λ (stream : Stream). stream.raw.closed) (answers.refused why is).same
-stays_by None before after call reply is made closes answers some closed = ⊎_elim (λ none. opens_by before after call reply made closes answers (lives_by before call made closes is) none closed) some (none_or_some after.owed.bytes)
+stays_by None before after call reply is made closes answers some closed = ⊎_elim (λ none. opens_by before after call reply made closes answers (grind arith) none closed) some (none_or_some after.owed.bytes)
 
 -- what is owed after a call keeps the raw open
 owing_stays : (writes : Bool) (was : ℕ) (before after : Stream) (call : FileCall) (reply : FileReply) → before.can.writable ≡ writes → OwesAsItCan (buffer_of before was) → Answers before call reply after → after.owed.bytes ≢ [] → StaysOpen before.raw after.raw

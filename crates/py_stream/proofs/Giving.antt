@@ -138,13 +138,9 @@ pub record Gave (old : Stream) (call : FileCall) (reply : FileReply) (short : Bo
   pub straight : OwesNoneOfIts old call reply (record new { short = short })
   pub starves : IsTrue (says_no_memory reply) → new.life ≡ life.Failed → TookOwn old (record new { short = short })
 
--- what a call that gives bytes did with them
-coming_writes : (old new : Stream) (call : FileCall) (reply : FileReply) (short : Bool) → MayWrite old call → KeepsOn old new → Gave old call reply short new → Writes old call reply (record new { short = short })
-coming_writes old new call reply short may kept gave = grind (arith, is_giving, owes_both)
-
 -- what a call that gives bytes left of such a stream answers it
 pub answers_coming : (old new : Stream) (call : FileCall) (reply : FileReply) (short : Bool) → MayWrite old call → Left old call reply short new → Gave old call reply short new → Answers old call reply (record new { short = short })
-answers_coming old new call reply short may left gave = answers_left old new call reply short may.gives left (coming_writes old new call reply short may left.kept gave)
+answers_coming old new call reply short may left gave = answers_left old new call reply short may.gives left (grind (arith, is_giving, owes_both))
 
 -- no wait ends a call but where it is counted
 pub calm_counts : (buffer : Option ℕ) (call : FileCall) (old new : Raw) → is_writing call ≡ true → Calm buffer old new → outlasts buffer call ≡ false → NoWait old new

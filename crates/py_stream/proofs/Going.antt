@@ -19,8 +19,8 @@ use Rattle.py_raw.specs.RawStream.{WhereTold, LeavesCounts}
 use Rattle.py_raw.proofs.Telling.{keeps_same, tells_its_bytes}
 use Rattle.py_raw.proofs.ReadingOn.{no_fault_then, no_wait_then}
 use Rattle.py_stream.specs.Stream.{Span, Stream, file_of, nothing_owed}
-use Rattle.py_stream.specs.Writing.{GoesAway, IsEndOf, SeekTargets, StopsAway, StandsBare, Writes}
-use Rattle.py_stream.specs.Answers.{Answers, Leaves, SeeksTo, SeeksFromEnd, InHandOf, InHand, StaysHeld, IsAmong, StaysAmong, WentTo, SparesBytes, IsCounted}
+use Rattle.py_stream.specs.Writing.{GoesAway, IsEndOf, SeekTargets, StopsAway, Writes}
+use Rattle.py_stream.specs.Answers.{Answers, Leaves, SeeksFromEnd, InHandOf, InHand, StaysHeld, IsAmong, StaysAmong, WentTo, SparesBytes, IsCounted}
 use Rattle.py_stream.specs.Keeping.{KeepsOn}
 use Rattle.py_stream.specs.Settling.{PassesSome, LivesOn, SettleOutcome}
 use Rattle.py_stream.specs.Moving.{StandsAsBefore, AsksEnd, TargetFromEnd, TargetOutcome, IsHeld, owed_at, StepsTo, GoesTo, GoOutcome, Begins}
@@ -29,7 +29,7 @@ use Rattle.py_stream.proofs.Begun.{answers_whole}
 use Rattle.py_stream.proofs.Taking.{keeps_then, faulted_then, answers_still}
 use Rattle.py_stream.proofs.Flat.{flat_of, file_now}
 use Rattle.py_stream.proofs.Showing.{PassesBytes, Asked, Accepts, Beside, beside_writing, shows_answers, passing_writes, seek_moves_none}
-use Rattle.py_stream.proofs.PassingOn.{begun, laid_there, passes_nothing, FaultLeaves, passed_all, passing_front, passing_keeps, passing_file, stays_open, lacking_answers, lacks_refuse, fault_fails, settling_refuses, LeavesOwed, settles_then}
+use Rattle.py_stream.proofs.PassingOn.{begun, laid_there, passes_nothing, FaultLeaves, passed_all, passing_front, passing_keeps, passing_file, stays_open, lacking_answers, lacks_refuse, fault_fails, settling_refuses, settles_then}
 use Rattle.py_stream.proofs.Seeking.{MaySeek, seek_refusal_is, target_why, bad_place_is_own, RefusesPlace, refuses_place, ReachesRaw, end_reaches, TargetOf, Goes, goes, seeks_nowhere, argument_refuses}
 
 -- Where the stream ends.
@@ -81,11 +81,7 @@ end_refuses old new offset why end may asks refuses =
     let at : RefusesPlace offset why = refuses_place offset why (target_why (moved_by end offset) why refuses) in
     let short : new.short ≡ false = asks.stands.kept.short ∙ may.whole in
     let left : Leaves old (Refused why) (Refused why) (record new { raw = old.raw }) = grind arith in
-    let seeks : SeeksFromEnd old offset (Refused why) new = record {
-      end = end;
-      is = answered;
-      target = subst (λ (refused : Option IoFault). SeeksTo old (moved_by end offset) refused (Refused why) new) (sym refuses) (seeks_nowhere old (moved_by end offset) why new left);
-    } in
+    let seeks : SeeksFromEnd old offset (Refused why) new = grind (arith, seeks_nowhere) in
     shows_answers old call (Refused why) new (seek_moves_none offset (pos 2)) (grind (arith, passing_keeps, end_reaches, stays_open, spared, passing_writes, seek_moves_none, passing_front, seek_refusal_is, tells_its_bytes, passing_file))
 
 from_end_refuses : (old new : Stream) (offset : ℤ) (why : IoFault) → MaySeek old → TargetFromEnd offset old (Err why) new → Answers old (Seek offset (pos 2)) (Refused why) new
@@ -184,10 +180,6 @@ sought_told old new offset whence target to short file tells =
 
 -- The stream goes among the bytes held, and its raw isn't called.
 
--- what a step among the bytes held keeps
-step_keeps : (found new : Stream) (target : ℕ) → StepsTo found target true new → KeepsOn found new
-step_keeps found new target steps = grind (arith, keeps_same)
-
 -- the flat file after a step among the bytes held
 stepped_file : (old found new : Stream) (target : ℕ) → FoundOut old found → StepsTo found target true new → WhereTold old.raw (file_of new ≡ record (file_of old) { place = target })
 stepped_file old found new target out steps tells =
@@ -222,10 +214,6 @@ owed_stays : (none : Bool) (target : ℕ) (owed : Owed) → (let kept : Owed = i
 owed_stays true target owed some = absurd (some refl)
 owed_stays false target owed some = refl
 
--- so it stays, and the bytes held, and the raw where it stood
-step_among : (old found new : Stream) (target : ℕ) → FoundOut old found → StepsTo found target true new → StaysAmong old new
-step_among old found new target out steps = grind (arith, step_owes, owed_stays)
-
 -- a front of what was owed was passed on: none of it
 step_passes : (old found new : Stream) (offset whence : ℤ) (target : ℕ) → MaySeek old → Finds old offset whence target found → StepsTo found target true new → PassesBytes old (Seek offset whence) (Place target) new
 step_passes old found new offset whence target may finds steps = grind (arith, lays_nothing, eqb_tells, step_stays)
@@ -235,11 +223,11 @@ stepped : (old found new : Stream) (offset whence : ℤ) (target : ℕ) → MayS
 stepped old found new offset whence target may finds steps =
     let call : FileCall = Seek offset whence in
     let asked : Asked old call = reaching old offset whence may finds.to.asks in
-    let kept : KeepsOn old new = keeps_then old found new finds.out.stands.kept (step_keeps found new target steps) in
+    let kept : KeepsOn old new = keeps_then old found new finds.out.stands.kept (grind (arith, keeps_same)) in
     let short : new.short ≡ false = kept.short ∙ may.whole in
     let writes : Writes old call (Place target) new = passing_writes old call (Place target) new asked.none (step_passes old found new offset whence target may finds steps) in
     let told = sought_told old new offset whence target finds.to short (stepped_file old found new target finds.out steps) in
-    let stays : StaysAmong old new = step_among old found new target finds.out steps in
+    let stays : StaysAmong old new = grind (arith, step_owes, owed_stays) in
     let owing : StaysHeld old new = record { owed = stays.owed; held = stays.held } in
     let seeks : WentTo old target new = record { among = λ _. stays; away = λ away. absurd (step_stays old found new target may finds.out steps away) } in
     shows_answers old call (Place target) new asked.none (grind (arith, stays_open))
@@ -257,10 +245,6 @@ gone_file old mid new target live passes empty kept went tells =
     let flat : flat_of new ≡ flat_of old = ap (lay new.raw.bytes new.owed.place) none ∙ bytes ∙ passed_all old mid passes empty tells in
     grind (arith, file_now)
 
--- nothing is held where the stream stands then, or owed
-gone_bare : (mid new : Stream) (target : ℕ) → GoesTo mid target new → StandsBare new
-gone_bare mid new target goes = grind arith
-
 -- the stream stands where it was to go
 gone : (old mid new : Stream) (offset whence : ℤ) (target : ℕ) → MaySeek old → Goes old offset whence target → (IsAmong old target → ⊥) → Beside old (Seek offset whence) (Place target) new → SettleOutcome old (Ok tt) mid → GoesTo mid target new → Answers old (Seek offset whence) (Place target) new
 gone old mid new offset whence target may to beyond beside settled_by goes =
@@ -275,18 +259,14 @@ gone old mid new offset whence target may to beyond beside settled_by goes =
     let counted : IsTrue old.raw.counts_exactly → IsCounted old.buffer old.raw call (Place target) new.raw new.short = λ exact. record { faults = λ _. no_fault_then old.raw mid.raw new.raw passes.kept.raw settled_by.0.no_fault goes.counts.no_fault exact; waits = λ _ _. no_wait_then old.raw mid.raw new.raw passes.kept.raw settled_by.1 goes.counts.no_wait exact; once = λ waited. absurd (cc) } in
     let writes : Writes old call (Place target) new = passing_writes old call (Place target) new asked.none (grind (arith, answers_still)) in
     let told = sought_told old new offset whence target to short (gone_file old mid new target may.live passes settled_by.2 kept goes) in
-    let seeks : WentTo old target new = record { among = λ among. absurd (beyond among); away = λ _. gone_bare mid new target goes } in
+    let seeks : WentTo old target new = record { among = λ among. absurd (beyond among); away = λ _. grind arith } in
     shows_answers old call (Place target) new asked.none (search (rules, stays_open))
 
 -- A stream that owes nothing is moved at once.
 
--- the raw failed to move, or wanted memory
-going_refused : (old found new : Stream) (offset whence : ℤ) (target : ℕ) (why : IoFault) → MaySeek old → (InHand old (Seek offset whence) → ⊥) → Finds old offset whence target found → GoOutcome found target (Err why) new → Answers old (Seek offset whence) (Refused why) new
-going_refused old found new offset whence target why may apart finds fails = grind (arith, lays_nothing, apart)
-
 -- a stream that owes nothing fails to move
 pub going_fails : (old found new : Stream) (offset whence : ℤ) (target : ℕ) (why : IoFault) → MaySeek (begun old) → IsBeyond found target → Finds (begun old) offset whence target found → GoOutcome found target (Err why) new → Answers old (Seek offset whence) (Refused why) new
-going_fails old found new offset whence target why may beyond finds fails = answers_whole old new (Seek offset whence) (Refused why) (going_refused (begun old) found new offset whence target why may (apart (begun old) found offset whence target finds beyond) finds fails)
+going_fails old found new offset whence target why may beyond finds fails = answers_whole old new (Seek offset whence) (Refused why) (grind (arith, lays_nothing, apart (begun old) found offset whence target finds beyond))
 
 -- a stream that owes nothing stands where it was to go
 pub going_answers : (old found new : Stream) (offset whence : ℤ) (target : ℕ) → MaySeek (begun old) → old.owed ≡ nothing_owed old.place → IsBeyond found target → Finds (begun old) offset whence target found → GoesTo found target new → Answers old (Seek offset whence) (Place target) new
@@ -311,13 +291,9 @@ pub record SeeksWriting (old : Stream) (offset whence : ℤ) : Type 0 where
 accepts_seek : (old : Stream) (offset whence : ℤ) (target : ℕ) → SeeksWriting old offset whence → Goes old offset whence target → Accepts old (Seek offset whence)
 accepts_seek old offset whence target seeks to = record { asked = reaching old offset whence seeks.may to.asks; works = λ tells. to.works (tells_its_bytes old.raw tells) }
 
--- what was found out left what is owed
-found_leaves : (old found : Stream) → FoundOut old found → LeavesOwed old found
-found_leaves old found out = grind arith
-
 -- all was passed on after what was found out
 found_settles : (old mid new : Stream) (result : Result (Unit {0}) IoFault) → FoundOut old mid → SettleOutcome mid result new → SettleOutcome old result new
-found_settles old mid new result out settles = settles_then old mid new result (found_leaves old mid out) settles
+found_settles old mid new result out settles = settles_then old mid new result (grind arith) settles
 
 -- the raw was left alone after some was passed on
 pub passes_still : (old mid new : Stream) → PassesSome old mid → StandsAsBefore mid new → PassesSome old new

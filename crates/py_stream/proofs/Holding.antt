@@ -10,7 +10,7 @@ use Rattle.py_flat.specs.Limits.{greatest_place}
 use Rattle.py_flat.specs.Bytes.{lay}
 use Rattle.py_flat.specs.Owed.{Owed}
 use Rattle.py_flat.specs.Calls.{FileCall, Peek, FileReply, Bytes, NotReady, Refused}
-use Rattle.py_flat.specs.FlatFile.{FlatFile, Buffered}
+use Rattle.py_flat.specs.FlatFile.{FlatFile}
 use Rattle.py_flat.specs.Refusals.{lacks}
 use Rattle.py_flat.specs.ExactStep.{is_closed, rest}
 use Rattle.py_flat.specs.AllowedStep.{settled, waited_for, raw_faulted, out_of_memory}
@@ -19,7 +19,7 @@ use Rattle.py_raw.specs.RawStream.{StaysOpen, WhereTold, WhereTransfers}
 use Rattle.py_raw.proofs.Telling.{keeps_same}
 use Rattle.py_stream.specs.Stream.{Stream, size_of, file_of, nothing_owed}
 use Rattle.py_stream.specs.Kinds.{is_reading, is_single, asks_nothing, reads_on, by_several, makes_one, asks_none, has_room, says_fault, says_no_memory, says_given}
-use Rattle.py_stream.specs.Writing.{NoneAtPlace, LaysFront, LaysInOrder, BlocksFull, Writes}
+use Rattle.py_stream.specs.Writing.{NoneAtPlace, BlocksFull, Writes}
 use Rattle.py_stream.specs.Answers.{Answers, KeepsStream, ClosedWith, parts_at_close, HasCauses, IsCounted, IsShort, LifeMoves, PlaceMoves, GivesWithin, WantsMemory, Starves, StarvesReading, StarvesFirst, AsksNothing, AtMostOne, ReadsOnce, FlushesFirst, PassesFirst, CameByReads, InHand, StaysHeld, IsAhead, GoesPast, AsksNoMore, SparesBytes, IsReplyTo, IsNear, refused_by, ahead}
 use Rattle.py_stream.specs.Keeping.{IsSound}
 use Rattle.py_stream.specs.Settling.{PassesSome, LivesOn, SettleOutcome}
@@ -96,13 +96,9 @@ shows_reading before after call reply reads held shows =
 
 -- What stops a passing on before a reading.
 
--- a reading lays nothing of its own
-reading_lays : (before : Stream) (call : FileCall) (after : List ℕ) → is_reading call ≡ true → LaysFront before [] after → LaysInOrder before call after
-reading_lays before call after reads lays = grind arith
-
 -- what a reading does with what is owed, of which it passed on a front
 passing_reads : (before mid : Stream) (call : FileCall) (reply : FileReply) (short : Bool) → is_reading call ≡ true → before.life ≡ life.Live → PassesSome before mid → BlocksFull call reply (record mid { short = short }) → Writes before call reply (record mid { short = short })
-passing_reads before mid call reply short reads live passes full = grind (arith, reading_call, reading_lays, passing_front)
+passing_reads before mid call reply short reads live passes full = grind (arith, reading_call, passing_front)
 
 -- a live stream with a buffer that writes comes to a reading of some bytes, which the bytes held don't answer
 pub record HasToPass (before : Stream) (call : FileCall) : Type 0 where
@@ -263,10 +259,6 @@ record IsHeldAnswer (before : Stream) (call : FileCall) (reply : FileReply) (pla
   told : WhereTold before.raw (Accepted (file_of before) call reply (record (file_of before) { place = place }))
   reach : WhereTold before.raw (place ≤ max before.place (length (file_of before).bytes))
 
--- nothing is owed still, at the new place
-owes_none : (before : Stream) (place : ℕ) (owed : Owed) → Moved before place owed → before.owed ≡ nothing_owed before.place → owed ≡ nothing_owed place
-owes_none before place owed moved bare = grind arith
-
 -- what a reading does with what is owed that calls no raw
 held_writes : (before : Stream) (call : FileCall) (reply : FileReply) (place : ℕ) (owed : Owed) → is_reading call ≡ true → BlocksFull call reply (record before { place = place; owed = owed }) → Moved before place owed → Writes before call reply (record before { place = place; owed = owed })
 held_writes before call reply place owed reads full moved = grind (arith, reading_call)
@@ -296,15 +288,11 @@ held_reading before call reply place owed reads held moved is =
     let goes_past : GoesPast before after → ⊥ = λ past. stays_within before place owed (moved.sound.near held.live).before_end past in
     let writes : Writes before call reply after = held_writes before call reply place owed reads (reading_fills call reply after before.buffer before.can.writable reads is.said is.answers) moved in
     let passes_first : PassesFirst before call reply after = λ _ single some _ first. moved.bytes ∙ is.passed single some first in
-    shows_reading before after call reply reads held (grind (arith, keeps_same, came_still, each_still, owes_none))
-
--- a stream that owes nothing is moved with the place of that
-owed_moves : (raw : List ℕ) (target : ℕ) (owed : Owed) → lay raw (owed_at target owed).place (owed_at target owed).bytes ≡ lay raw owed.place owed.bytes
-owed_moves raw target owed = grind arith
+    shows_reading before after call reply reads held (grind (arith, keeps_same, came_still, each_still))
 
 -- a stream that gave some of the bytes held was moved past them
 held_moved : (before : Stream) (part : List ℕ) (after : Stream) → GivesHeld before part after → Moved before (before.place + length part) (owed_at (before.place + length part) before.owed)
-held_moved before part after gives = grind (arith, owed_moves)
+held_moved before part after gives = grind arith
 
 -- what is wanted of all that is left, where that is all of a part, whatever comes after it
 wanted_next : (wanted : List ℕ → List ℕ) (left part : List ℕ) → take (length part) left ≡ part → ((more : List ℕ) → wanted (part ++ more) ≡ part) → wanted left ≡ part
@@ -409,21 +397,9 @@ held_peek before part held some within next =
 
 -- Readings that ask for nothing.
 
--- the flat file gives nothing to a reading that asks for nothing
-nothing_carried : (size : ℕ) (file : FlatFile) (call : FileCall) → asks_none (Some size) call ≡ true → Accepted (record file { buffering = Buffered size }) call (Bytes []) (record file { buffering = Buffered size })
-nothing_carried size file call asks = grind arith
-
--- a call that asks for no byte reads
-asks_reads : (before : Stream) (call : FileCall) → asks_none before.buffer call ≡ true → is_reading call ≡ true
-asks_reads before call asks = grind arith
-
--- what an answer of no byte says to a call that asks for none
-nothing_answer : (before : Stream) (call : FileCall) → ReadsHeld before → asks_none before.buffer call ≡ true → IsHeldAnswer before call (Bytes []) before.place
-nothing_answer before call held asks = grind (arith, nothing_carried)
-
 -- a reading that asks for nothing is answered with nothing, by a stream as it was
 pub asks_nothing_answers : (before : Stream) (call : FileCall) → ReadsHeld before → asks_none before.buffer call ≡ true → Answers before call (Bytes []) before
-asks_nothing_answers before call held asks = held_reading before call (Bytes []) before.place before.owed (asks_reads before call asks) held (held_still before held) (nothing_answer before call held asks)
+asks_nothing_answers before call held asks = held_reading before call (Bytes []) before.place before.owed (grind arith) held (held_still before held) (grind arith)
 
 -- Readings for which there is no memory.
 

@@ -15,7 +15,7 @@ use Rattle.py_raw.specs.RawStream.{Raw, WhereTold, AnswersFor}
 use Rattle.py_raw.proofs.Telling.{tells_still}
 use Rattle.py_stream.specs.Stream.{Stream, size_of, file_of}
 use Rattle.py_stream.specs.Kinds.{outlasts, makes_one, says_fault, says_no_memory, is_writing}
-use Rattle.py_stream.specs.Writing.{OwesUpTo, first_place, CoversBoth, OwesAll, OwesTheRest, LeavesUpTo, OwesBoth, Takes, OwesOld, OwesNoneOfIts, LaysFront, IsFull, BlocksFull, HasRoom, TakesAlone, Writes, LaysInOrder, TookOwn}
+use Rattle.py_stream.specs.Writing.{OwesUpTo, first_place, CoversBoth, OwesAll, OwesTheRest, LeavesUpTo, OwesBoth, Takes, OwesNoneOfIts, LaysFront, IsFull, BlocksFull, HasRoom, TakesAlone, Writes, LaysInOrder, TookOwn}
 use Rattle.py_stream.specs.Answers.{Answers, LifeMoves, PlaceMoves, refused_by}
 use Rattle.py_stream.specs.Keeping.{IsSound, KeepsOn}
 use Rattle.py_stream.specs.Held.{TakesOver, KeepsBoth, OwesHeld}
@@ -274,10 +274,6 @@ fills_with_none before mid after call may roomless goes waited some gives fills 
 
 -- What stops the passing on before a call takes anything.
 
--- a call that took none of its bytes owes none of them
-owes_none : (before after : Stream) (call : FileCall) (why : IoFault) → OwesOld before after → OwesNoneOfIts before call (Refused why) after
-owes_none before after call why old = grind arith
-
 module _ (before new : Stream) (call : FileCall) (why : IoFault) (may : MayKeep before call) (roomless : HasRoom before (payload call) → ⊥) (passes : PassesSome before new) where
   stopped_writes : (new.life ≡ life.Failed → IsTrue (says_no_memory (Refused why)) → ⊥) → BlocksFull call (Refused why) (record new { short = false }) → Writes before call (Refused why) (record new { short = false })
   stopped_writes alive unblocked =
@@ -288,7 +284,7 @@ module _ (before new : Stream) (call : FileCall) (why : IoFault) (may : MayKeep 
       let room : IsTrue (is_writing call) → HasRoom before (payload call) → TakesAlone before call (Refused why) left = λ _ has. absurd (roomless has) in
       let lays : WhereTold before.raw (LaysInOrder before call new.raw.bytes) = λ tells. giving.lays before new.raw.bytes (left_lays before new passes (payload call) tells) in
       let starves : IsTrue (says_no_memory (Refused why)) → IsTrue (is_writing call) → new.life ≡ life.Failed → TookOwn before left = λ wanting writes failed. absurd (alive failed wanting) in
-      let straight : OwesNoneOfIts before call (Refused why) left = owes_none before left call why (left_old before new passes false) in
+      let straight : OwesNoneOfIts before call (Refused why) left = grind (arith, left_old before new passes false) in
       let rests : before.life ≢ life.Live → new.raw ≡ before.raw = λ dead. absurd (dead may.gives.live) in
       search (rules)
 

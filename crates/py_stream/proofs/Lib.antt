@@ -38,4 +38,3 @@ pub mod Settled
 pub mod Holding
 pub mod LeftOwed
 pub mod Keeping
-pub mod AskingEnd

@@ -2,8 +2,7 @@
 use Rattle.std.proofs.Common.{◌≡◌, ℤ, Bool, true, false, Ok, refl, sym, ap, ◌∙◌, arith}
 use Rattle.py_flat.specs.declared.fault.IoFault.TheVariants as fault
 use Rattle.py_flat.specs.Calls.{Seek, Refused}
-use Rattle.py_flat.specs.Refusals.{lacks}
-use Rattle.py_stream.specs.Stream.{Stream, file_of}
+use Rattle.py_stream.specs.Stream.{Stream}
 use Rattle.py_stream.specs.Answers.{Answers}
 use Rattle.py_stream.specs.Keeping.{IsSound}
 use Rattle.py_stream.specs.LiveRaw.{is_movable}
@@ -16,11 +15,8 @@ use Rattle.py_stream.proofs.Seeking.{MaySeek}
 pub seeks_on : (old started seen : Stream) (moves : Bool) → IsSound old → Begins old (Ok tt) started → seen ≡ started → moves ≡ is_movable seen.can → moves ≡ true → MaySeek (begun old)
 seeks_on old started seen moves sound began is asked can = grind arith
 
-lacks_seek : (stream : Stream) (offset whence : ℤ) → is_movable stream.can ≡ false → lacks (file_of stream) (Seek offset whence) ≡ true
-lacks_seek stream offset whence still = grind arith
-
 -- a seek of a stream that may not be moved is refused as unsupported
 pub seeks_not : (old started seen : Stream) (moves : Bool) (offset whence : ℤ) → IsPlaced old → Begins old (Ok tt) started → seen ≡ started → moves ≡ is_movable seen.can → moves ≡ false → Answers old (Seek offset whence) (Refused fault.Unsupported) started
 seeks_not old started seen moves offset whence placed began is asked cannot =
     let still : is_movable old.can ≡ false = ap (λ (stream : Stream). is_movable stream.can) (sym began.1 ∙ sym is) ∙ sym asked ∙ cannot in
-    refused_by_ability old started (Seek offset whence) placed refl refl began.0 (lacks_seek old offset whence still) began.1
+    refused_by_ability old started (Seek offset whence) placed refl refl began.0 (grind arith) began.1

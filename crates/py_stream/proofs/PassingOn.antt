@@ -1,6 +1,6 @@
 -- A call that passes on what is owed, and what stops it.
 use Rattle.py_stream.specs.Moving.{StandsAsBefore}
-use Rattle.std.proofs.Common.{IsTrue, ◌≡◌, ◌≢◌, ℕ, suc, zero, ◌+◌, ◌<◌, ◌≤◌, Bool, true, false, List, [], ◌∷◌, length, take, drop, Option, Some, Result, Ok, Err, refl, sym, ap, ◌∙◌, subst, arith, length-drop, rules}
+use Rattle.std.proofs.Common.{IsTrue, ◌≡◌, ◌≢◌, ℕ, ◌+◌, ◌<◌, ◌≤◌, Bool, true, false, List, [], ◌∷◌, length, take, drop, Option, Some, Result, Ok, Err, refl, sym, ap, ◌∙◌, subst, arith, length-drop, rules}
 use Rattle.std.proofs.Math.Seq.{take-add, take-nil, drop-nil}
 use Rattle.std.proofs.lemmas.List.{append-nil, drop-drop, length-take-le}
 use Rattle.py_flat.specs.declared.fault.IoFault.{IoFault}
@@ -48,18 +48,6 @@ none_owed_at new ends none = omega (arith, ends, ap length none)
 -- some front that was laid on is laid on in order
 pub lays_some : (old new : Stream) → WhereTold old.raw ((laid : ℕ) × (new.raw.bytes ≡ lay old.raw.bytes old.owed.place (take laid old.owed.bytes))) → WhereTold old.raw (LaysFront old [] new.raw.bytes)
 lays_some old new laid tells = record { passed = (laid tells).0; more = 0; order = λ some. absurd (some refl); laid = (laid tells).1 }
-
--- a step that took nothing passed on a front
-pub took_passes : (old new : Stream) → Took old [] new → PassesSome old new
-took_passes old new took = grind (arith, append-nil, length-drop, none_owed_at, lays_some)
-
-take_of_none : (count : ℕ) (bytes : List ℕ) → bytes ≡ [] → take count bytes ≡ []
-take_of_none zero bytes none = refl
-take_of_none (suc count) bytes none = ap (take (suc count)) none
-
--- a failing that had nothing of its own to take passed on a front
-pub failing_passes : (old new : Stream) → FailsTaking old [] new → PassesSome old new
-failing_passes old new fails = grind (arith, append-nil, take_of_none, length-drop, none_owed_at, lays_some)
 
 -- Passing on just what the raw answered for, transfer by transfer.
 

@@ -1,5 +1,5 @@
 -- Taking all bytes of a call, piece by piece and line by line.
-use Rattle.std.proofs.Common.{◌≡◌, ◌≢◌, ℕ, ◌+◌, ◌≤◌, ◌<◌, Bool, true, false, List, [], ◌++◌, length, take, drop, get_or, Option, IsSome, unwrap_or, Result, Ok, Err, refl, sym, ap, ◌∙◌, subst, arith, length-append, append_assoc, length-drop}
+use Rattle.std.proofs.Common.{◌≡◌, ◌≢◌, ℕ, ◌+◌, ◌≤◌, ◌<◌, Bool, true, false, List, [], ◌++◌, length, take, drop, get_or, unwrap_or, Result, Ok, Err, refl, sym, ap, subst, arith, length-append, append_assoc, length-drop}
 use Rattle.std.proofs.Math.Seq.{take-add}
 use Rattle.std.proofs.lemmas.List.{length-take-le, take-append-drop}
 use Rattle.py_flat.specs.declared.fault.IoFault.{IoFault}
@@ -71,20 +71,11 @@ lines_taken old now new lines i line piece within is same took more = grind (ari
 
 -- bytes kept behind others are kept with them
 keeps_more : (old mid new : Stream) (front more : List ℕ) → KeepsBehind old front mid → KeepsBehind mid more new → KeepsBehind old (front ++ more) new
-keeps_more old mid new front more first second = record {
-  raw = second.raw ∙ first.raw;
-  buffer = second.buffer ∙ first.buffer;
-  owed = second.owed ∙ ap (λ (owed : List ℕ). owed ++ more) first.owed ∙ append_assoc old.owed.bytes front more;
-  forth = omega (arith, first.forth, second.forth);
-  held = omega (arith, first.held, second.held, second.forth);
-}
+keeps_more old mid new front more first second = grind (arith, append_assoc)
 
 -- a line has room behind the lines before it, where all bytes have
 line_fits : (old now : Stream) (front line all : List ℕ) → KeepsBehind old front now → length front + length line ≤ length all → FitsBehind old all → FitsBehind now line
-line_fits old now front line all keeps within fits = record {
-  buffered = subst (λ (buffer : Option ℕ). IsSome buffer) (sym keeps.buffer) fits.buffered;
-  room = omega (arith, fits.room, within, ap length keeps.owed, length-append old.owed.bytes front, ap (λ (buffer : Option ℕ). unwrap_or buffer 0) keeps.buffer);
-}
+line_fits old now front line all keeps within fits = grind (arith, length-append, unwrap_or)
 
 -- lines so far were kept, and the next one has room, where all bytes have
 next_fits : (old now : Stream) (front line piece all : List ℕ) → piece ≡ line → (FitsBehind old front → KeepsBehind old front now) → length front + length line ≤ length all → FitsBehind old all → KeepsBehind old front now × FitsBehind now piece

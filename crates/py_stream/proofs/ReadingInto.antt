@@ -113,14 +113,7 @@ module _ (old : Stream) (was : Bool) (count : ℕ) (buffer : List ℕ) (moved : 
       let part : List ℕ = take (count + more) (take count buffer ++ left) in
       let gives : Gives old part new = grind (arith, keeps_then, no_fault_then, behind_told) in
       let needed : IsNeeded old new = grind arith in
-      record {
-        fits = omega (arith, long);
-        full = λ _. sym long;
-        less = λ other. absurd (other refl);
-        idle = λ within. absurd (omega (arith, within, long, reads.all, steps.some));
-        to = steps.to;
-        stops = (gives, no_wait_then old.raw now.raw new.raw reads.kept.raw reads.counts.no_wait steps.counts.no_wait, each_then old now new 0 0 reads.kept.raw reads.each steps.each, needed);
-      }
+      grind (arith, no_wait_then, each_then)
 
   -- no more came: what came is given
   reads_given : (left : List ℕ) (new : Stream) (empties : ℕ) → StepsNone empties now new → Gives old (take count (take count buffer ++ left)) new
@@ -275,17 +268,7 @@ module _ (before : Stream) (bytes : List ℕ) (more : ℕ) (moved : Bool) (now n
 
   -- a turn found no memory, once bytes had left the raw
   fails_on : (was : Bool) → FailsStarved was now new → before.raw_place < new.raw_place → WherePlace before.raw (before.raw.place < new.raw.place) → WhereTold before.raw (rest (file_of before) ≢ []) → FailsMoved before new
-  fails_on was fails further stands some = record {
-    kept = keeps_then before now new reads.gives.kept fails.kept;
-    counts = uncounted_then before.raw now.raw new.raw reads.gives.kept.raw (record { no_fault = reads.gives.no_fault; no_wait = reads.no_wait }) fails.counts;
-    failed = fails.failed;
-    forth = omega (arith, reads.gives.place, fails.forth);
-    reach = reaches_on fails.reach;
-    further = further;
-    stands = stands;
-    some = some;
-    each = each_then before now new 0 0 reads.gives.kept.raw reads.each fails.each;
-  }
+  fails_on was fails further stands some = grind (arith, keeps_then, uncounted_then, reaches_on, each_then)
 
   -- in a turn after the first
   all_moved : moved ≡ true → FailsStarved true now new → FailsMoved before new

@@ -12,7 +12,7 @@ use Rattle.py_flat.specs.FlatFile.{FlatFile}
 use Rattle.py_flat.specs.Refusals.{lacks}
 use Rattle.py_flat.specs.ExactStep.{rest, after_read}
 use Rattle.py_flat.specs.AllowedStep.{settled}
-use Rattle.py_flat.specs.BinaryStep.{BinaryStep, Accepted, SettledBy, GivesPart, WaitedBy, StarvedBy, does_work}
+use Rattle.py_flat.specs.BinaryStep.{BinaryStep, Accepted, SettledBy, StarvedBy, does_work}
 use Rattle.py_flat.proofs.Cutting.{joined_lines}
 use Rattle.py_lines.proofs.Lines.{lines_left}
 use Rattle.py_raw.specs.RawStream.{WhereTold, NoWait, WaitsOnce}
@@ -53,10 +53,6 @@ taken_within size part alone = omega (arith, ap length alone, length-take size p
 pub part_within : (size : ℕ) (call : FileCall) (part : List ℕ) → reads_on call ≡ true → wanted_by call part ≡ part → GivesWithin size call (reply_by call part)
 part_within size call part on alone = grind (arith, taken_within, joined_lines, lines_left, cut_again)
 
--- a wait allows a front of what is wanted
-part_waited : (file : FlatFile) (call : FileCall) (part : List ℕ) (after : FlatFile) → reads_on call ≡ true → GivesPart file (wanted_by call (rest file)) part after → WaitedBy file call (reply_by call part) after
-part_waited file call part after on gives_part = grind arith
-
 -- the exact answer
 pub carried : (buffer : Option ℕ) (file : FlatFile) (call : FileCall) (part : List ℕ) (after : FlatFile) → file.buffering ≡ buffering_of buffer → by_several buffer call ≡ true → wanted_by call (rest file) ≡ part → after ≡ after_read file (length part) → Accepted file call (reply_by call part) after
 carried buffer file (ReadLines hint) part after buffered several exact is =
@@ -77,10 +73,6 @@ pub record Needs (wanted : List ℕ → List ℕ) (before : Stream) (part : List
   pub whole : ((more : List ℕ) → wanted (part ++ more) ≡ part) → EachBrings 0 0 before after
   pub last : EachBrings 1 1 before after
 
--- a reading that had enough: no transfer brought nothing
-pub needs_enough : (wanted : List ℕ → List ℕ) (before : Stream) (part : List ℕ) (after : Stream) → EachBrings 0 0 before after → IsNeeded before after → Needs wanted before part after
-needs_enough wanted before part after each needed = grind (arith, each_more)
-
 -- a reading that wants more: one transfer may have brought nothing
 pub needs_open : (wanted : List ℕ → List ℕ) (before : Stream) (part : List ℕ) (after : Stream) → EachBrings 1 1 before after → IsOpen wanted part → Needs wanted before part after
 needs_open wanted before part after each goes_on = grind arith
@@ -88,10 +80,6 @@ needs_open wanted before part after each goes_on = grind arith
 -- what a call that gave bytes asked of its raw
 asks_given : (before mid : Stream) (call : FileCall) (part : List ℕ) (short : Bool) → reads_on call ≡ true → Needs (wanted_by call) before part mid → AsksNoMore before call (reply_by call part) (record mid { short = short })
 asks_given before mid call part short on needs = grind (arith, whole_wanted, reading_call, reading_on, each_seen)
-
--- what a call that gave none asked of its raw
-asks_ungiven : (before mid : Stream) (call : FileCall) (reply : FileReply) (short : Bool) → (IsWhole call reply → ⊥) → EachBrings 1 1 before mid → AsksNoMore before call reply (record mid { short = short })
-asks_ungiven before mid call reply short never each = grind (arith, each_seen)
 
 -- what a reading asked of its raw, whether it goes on or makes one transfer
 pub record AsksRaw (before : Stream) (call : FileCall) (mid : Stream) : Type 0 where
@@ -147,11 +135,11 @@ told_enough before mid call part several begun given gathered tells =
     (carried before.buffer (file_of before) call part (file_of mid) refl several (gathered.exact tells) (file_after before mid (length part) begun.bare given.kept (given.live ∙ sym begun.live) given.place tells)))
 
 told_front : (before mid : Stream) (call : FileCall) (part : List ℕ) → by_several before.buffer call ≡ true → Reads before → Gives before part mid → part ≢ [] → GathersFront (wanted_by call) before part → WhereTold before.raw (BinaryStep (file_of before) call (reply_by call part) true false (file_of mid))
-told_front before mid call part several begun given some gathered tells = grind (arith, is_several, works, reading_on, on_suits, part_waited, file_after)
+told_front before mid call part several begun given some gathered tells = grind (arith, is_several, works, reading_on, on_suits, file_after)
 
 -- what a reading gave, by where it stopped
 given_at : (before mid : Stream) (call : FileCall) (part : List ℕ) (stop : Stop) → by_several before.buffer call ≡ true → Reads before → GatherOutcome (wanted_by call) before (Ok stop) part mid → (IsTrue (is_wait stop) → part ≢ []) → Given before call part (is_wait stop) mid
-given_at before mid call part stops.Enough several begun outcome some = grind (arith, told_enough, needs_enough)
+given_at before mid call part stops.Enough several begun outcome some = grind (arith, told_enough, each_more)
 given_at before mid call part stops.End several begun outcome some =
     let told = told_enough before mid call part several begun outcome.stops.0 outcome.gathers.0 in
     let needs : Needs (wanted_by call) before part mid = needs_open (wanted_by call) before part mid outcome.stops.3 outcome.gathers.1 in
@@ -202,6 +190,6 @@ answers_failing before after call several begun fails within room space idle som
     let asks : AsksRaw before call after = several_asks before after call several idle each in
     let place : MovesForth (moves_most call) before.place after.place = forth_by (moves_most call) before.place after.place fails.forth within in
     let told : WhereTold before.raw (StarvedBy (file_of before) call (file_of after)) = λ tells. starved_by_failing (file_of before) call (file_of after) on (some tells) (file_fails before after begun.bare fails.kept fails.failed tells) in
-    let needs : AsksNoMore before call (Refused fault.NoMemory) (record after { short = false }) = asks_ungiven before after call (Refused fault.NoMemory) false (is.refused_whole fault.NoMemory) each in
+    let needs : AsksNoMore before call (Refused fault.NoMemory) (record after { short = false }) = grind (arith, each_seen, is.refused_whole fault.NoMemory) in
     let does : IsTrue (does_work (file_of before) call) = works before call reads has begun.live in
     unshortened before after call (Refused fault.NoMemory) begun fails.kept (answers_coming before after call (Refused fault.NoMemory) false reads has begun (grind (arith, starves_where)))

@@ -170,10 +170,6 @@ reading_lays before mid after passes none more tells =
     let laid = more (tells_still before.raw mid.raw passes.kept.raw ∙ tells) in
     subst (λ (bytes : List ℕ). LaysFront before [] bytes) (sym (lays_none mid.raw.bytes mid.owed.bytes mid.owed.place before.place laid.passed laid.more after.raw.bytes none laid.laid)) (passes.lays tells)
 
--- it passes on no more than was passed on before it
-reading_passes : (before mid after : Stream) → PassesSome before mid → mid.owed.bytes ≡ [] → PassesFront (settled_as before mid) after → PassesFront before after
-reading_passes before mid after passes none more = grind (arith, drop-nil, answers_still)
-
 -- what a reading after a passing on does with the bytes that were owed
 reading_writes : (before mid after : Stream) (call : FileCall) (reply : FileReply) → is_reading call ≡ true → SettledFor before call mid → Writes (settled_as before mid) call reply after → Writes before call reply after
 reading_writes before mid after call reply reads settled writes =
@@ -181,7 +177,7 @@ reading_writes before mid after call reply reads settled writes =
     let lays : LaysOwed call = lays_owed call reads in
     let passes : PassesSome before mid = settled.settled_by.0.passes in
     let none : mid.owed.bytes ≡ [] = settled.settled_by.2 in
-    let leaves : is_writing call ≡ false → PassesFront before after = λ _. reading_passes before mid after passes none (writes.leaves is.writing) in
+    let leaves : is_writing call ≡ false → PassesFront before after = λ _. grind (arith, drop-nil, answers_still, writes.leaves is.writing) in
     let laid : WhereTold before.raw (LaysInOrder before call after.raw.bytes) = λ tells. lays.of_front before after.raw.bytes (reading_lays before mid after passes none (λ told. lays.to_front (settled_as before mid) after.raw.bytes (writes.lays told)) tells) in
     let settles : NoneAtPlace before → NoneAtPlace after = λ at. writes.settles (λ nothing. passes.at at nothing ∙ passes.still) in
     let unclosed : after.owed.bytes ≢ [] → after.raw.closed ≡ before.raw.closed = λ some. writes.unclosed some ∙ passes.kept.stays in
@@ -315,12 +311,8 @@ writing_writes before mid after call reply writing is writes =
     let rests : before.life ≢ life.Live → after.raw ≡ before.raw = λ dead. absurd (dead is.settled.live) in
     search (rules, writing_owes, writing_takes, writing_behind, writes.stands, giving.passes)
 
--- what the answer of a call that writes, after a passing on, has of its own
-writing_own : (before mid after : Stream) (call : FileCall) (reply : FileReply) → is_writing call ≡ true → SettledWriting before call mid → Answers (settled_as before mid) call reply after → AfterSettling before call reply after
-writing_own before mid after call reply writing is answers = grind (arith, takes_by_several, is_giving, gives_none, writing_writes)
-
 -- an answer of a call that writes, after all that was owed was passed on
 pub settled_writes : (before mid after : Stream) (call : FileCall) (reply : FileReply) → is_writing call ≡ true → SettledWriting before call mid → Answers mid call reply after → Answers before call reply after
 settled_writes before mid after call reply writing is answers =
     let seen : Answers (settled_as before mid) call reply after = as_settled before mid after call reply is.settled answers in
-    then_answers before mid after call reply (writes_moves call writing) is.settled seen (writing_own before mid after call reply writing is seen)
+    then_answers before mid after call reply (writes_moves call writing) is.settled seen (grind (arith, takes_by_several, is_giving, gives_none, writing_writes))

@@ -11,7 +11,7 @@ use Rattle.py_flat.specs.Owed.{Owed}
 use Rattle.py_flat.specs.Limits.{greatest_place}
 use Rattle.py_flat.specs.Calls.{Flush, Close, FileReply, Done, Refused}
 use Rattle.py_flat.specs.FlatFile.{FlatFile}
-use Rattle.py_flat.specs.ExactStep.{in_life, is_closed}
+use Rattle.py_flat.specs.ExactStep.{is_closed}
 use Rattle.py_flat.specs.AllowedStep.{settled}
 use Rattle.py_flat.specs.BinaryStep.{BinaryStep, SettledBy}
 use Rattle.py_raw.specs.RawStream.{WhereTold, NoWait, KeepsReads, StaysOpen}
@@ -140,9 +140,6 @@ shuts_down old mid new ready closes =
 shut_bytes : (old new : Stream) → ShutsDown old new → WhereTold old.raw (flat_of new ≡ flat_of old)
 shut_bytes old new shuts tells = ap (lay new.raw.bytes new.owed.place) shuts.none ∙ shuts.holds tells
 
-closed_file : (old new : Stream) → ShutsDown old new → WhereTold old.raw (file_of new ≡ in_life (file_of old) life.Closed)
-closed_file old new shuts tells = grind arith
-
 -- what the closing of the raw answers: the raw closed, or failed
 record ClosesWith (old new : Stream) (reply : FileReply) : Type 0 where
   pub causes : HasCauses old.raw reply new.raw new.short
@@ -184,7 +181,7 @@ closes_raw : (old mid new : Stream) (result : Result (Unit {0}) IoFault) → Rea
 closes_raw old mid new (Ok done) ready closes =
     let asked : Asked old Close = ready.asked in
     let shuts : ShutsDown old new = shuts_down old mid new ready closes.0 in
-    shut_answers old new Done asked done_shuts shuts (grind (arith, no_fault_then, closed_file))
+    shut_answers old new Done asked done_shuts shuts (grind (arith, no_fault_then))
 closes_raw old mid new (Err fault.RawFault) ready closes =
     let asked : Asked old Close = ready.asked in
     let shuts : ShutsDown old new = shuts_down old mid new ready closes.0 in

@@ -5,7 +5,7 @@ use Rattle.py_flat.specs.declared.fault.IoFault.{IoFault}
 use Rattle.py_flat.specs.declared.fault.IoFault.TheVariants as fault
 use Rattle.py_flat.specs.declared.life.Life.{Life}
 use Rattle.py_flat.specs.declared.life.Life.TheVariants as life
-use Rattle.py_flat.specs.Bytes.{left_at, first_or_all}
+use Rattle.py_flat.specs.Bytes.{left_at}
 use Rattle.py_flat.specs.Causes.{Rose}
 use Rattle.py_flat.specs.Calls.{FileCall, Read, Read1, Peek, ReadInto, ReadInto1, Bytes, NotReady, Refused}
 use Rattle.py_flat.specs.FlatFile.{FlatFile}
@@ -73,13 +73,9 @@ pub record IsPartOf (part wanted : List ℕ) : Type 0 where
   pub front : IsFrontOf part wanted
   pub some : part ≡ [] → wanted ≡ []
 
--- what a buffer that has a size is filled from
-buffer_of : (size : ℕ) (bytes : List ℕ) → 0 < size → take size bytes ≡ first_or_all size bytes
-buffer_of size bytes some = grind arith
-
 -- the flat file gives a first part by one transfer
 pub once_carried : (buffer : Option ℕ) (file : FlatFile) (call : FileCall) (part : List ℕ) (after : FlatFile) → reads_once buffer call ≡ true → ((size : ℕ) → buffer ≡ Some size → 0 < size) → IsPartOf part (take (asks_for (unwrap_or buffer 0) call) (rest file)) → after ≡ after_read (record file { buffering = buffering_of buffer }) (moves_by call (length part)) → Accepted (record file { buffering = buffering_of buffer }) call (Bytes part) after
-once_carried buffer file call part after once some is leaves = grind (arith, buffer_of)
+once_carried buffer file call part after once some is leaves = grind arith
 
 -- some first part of what is asked was given: nothing only where nothing is asked or left
 pub record GivesOnce (before : Stream) (call : FileCall) (part : List ℕ) (after : Stream) : Type 0 where

@@ -8,8 +8,8 @@ use Rattle.py_flat.specs.Limits.{greatest_place}
 use Rattle.py_flat.specs.Causes.{Rose}
 use Rattle.py_flat.specs.Owed.{Owed}
 use Rattle.py_flat.specs.Calls.{FileCall, Truncate, Place, Refused}
-use Rattle.py_flat.specs.FlatFile.{Abilities, FlatFile}
-use Rattle.py_flat.specs.Refusals.{refusal, lacks}
+use Rattle.py_flat.specs.FlatFile.{FlatFile}
+use Rattle.py_flat.specs.Refusals.{refusal}
 use Rattle.py_flat.specs.ExactStep.{truncated}
 use Rattle.py_flat.specs.AllowedStep.{raw_faulted}
 use Rattle.py_flat.specs.BinaryStep.{SettledBy, Fails, FaultedBy, BinaryStep}
@@ -60,14 +60,11 @@ truncating old size may within = grind (arith, accepted, truncate_moves_none)
 
 -- What refuses it before.
 
-lacks_truncation : (stream : Stream) (size : Option ℕ) → is_truncatable stream.can ≡ false → lacks (file_of stream) (Truncate size) ≡ true
-lacks_truncation stream size cannot = grind arith
-
 -- a truncation is unsupported of a stream that doesn't write, or may not be moved
 pub truncates_not : (old started seen : Stream) (can : Bool) (size : Option ℕ) → IsPlaced old → Begins old (Ok tt) started → seen ≡ started → can ≡ is_truncatable seen.can → can ≡ false → Answers old (Truncate size) (Refused fault.Unsupported) started
 truncates_not old started seen can size placed began is asked cannot =
     let unable : is_truncatable old.can ≡ false = ap (λ (stream : Stream). is_truncatable stream.can) (sym began.1 ∙ sym is) ∙ sym asked ∙ cannot in
-    refused_by_ability old started (Truncate size) placed refl refl began.0 (lacks_truncation old size unable) began.1
+    refused_by_ability old started (Truncate size) placed refl refl began.0 (grind arith) began.1
 
 too_large : (old : Stream) (size : Option ℕ) → MayTruncate old → greatest_place < size_asked old size → refusal (file_of old) (Truncate size) ≡ Some fault.TooFar
 too_large old None may beyond = absurd (omega (arith, beyond, may.sound.far))
@@ -80,10 +77,6 @@ pub record Started (old started : Stream) (size : Option ℕ) (count : ℕ) : Ty
   pub begins : Begins old (Ok tt) started
   pub can : is_truncatable started.can ≡ true
   pub asks : count ≡ size_asked started size
-
--- what may be truncated writes
-truncatable_writes : (can : Abilities) → is_truncatable can ≡ true → can.writable ≡ true
-truncatable_writes can may = grind arith
 
 may_truncate : (old started : Stream) (size : Option ℕ) (count : ℕ) → Started old started size count → MayTruncate (begun old)
 may_truncate old started size count is = grind arith
@@ -276,4 +269,4 @@ truncation_answers old started mid new size count is within settles bare resizes
     subst (λ (n : ℕ). Answers old (Truncate size) (Place n) new) (sym asked)
     (answers_whole old new (Truncate size) (Place (size_asked old size))
     (gives_size (begun old) mid new size (subst (λ (n : ℕ). n ≤ greatest_place) asked within)
-    (record { may = may_truncate old started size count is; settled_by = settled_first (keeps_pending started) old started mid size count refl is settles; keeps = given.keeps }) (bare (truncatable_writes started.can is.can)) given))
+    (record { may = may_truncate old started size count is; settled_by = settled_first (keeps_pending started) old started mid size count refl is settles; keeps = given.keeps }) (bare (grind arith)) given))

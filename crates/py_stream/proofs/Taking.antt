@@ -201,9 +201,3 @@ fills_then old mid new front more so second = record {
 -- a wait that stopped some bytes stopped more bytes too, that were never reached
 pub fills_more : (old new : Stream) (bytes more : List ℕ) → FillsUp old bytes new → FillsUp old (bytes ++ more) new
 fills_more old new bytes more fills = grind (arith, length-append, take-append-le)
-
--- After a step: a failing, or running out of memory, of a step that takes nothing.
-
--- a failing of a step that takes nothing, after another
-pub fails_on : (old mid new : Stream) (bytes : List ℕ) → TookAll old bytes mid → FailsTaking mid [] new → FailsTaking old bytes new
-fails_on old mid new bytes first second = subst (λ (xs : List ℕ). FailsTaking old xs new) (append-nil bytes) (fails_then old mid new bytes [] first second)

@@ -1,16 +1,15 @@
 -- The engine with which a call begins, and what a stream without a buffer refuses by itself.
-use Rattle.std.proofs.Common.{◌≡◌, ◌∙◌, true, false, Some, Err, Ok, refl, sym, ap, subst, arith, add-zero, ℕ, None, IsSome, Option, Result}
+use Rattle.std.proofs.Common.{◌≡◌, ◌∙◌, true, false, Some, Err, Ok, refl, sym, ap, arith, add-zero, ℕ, None, IsSome, Option, Result}
 use Rattle.py_flat.specs.declared.fault.IoFault.{IoFault}
 use Rattle.py_flat.specs.declared.fault.IoFault.TheVariants as fault
 use Rattle.py_flat.specs.declared.life.Life.{Life}
 use Rattle.py_flat.specs.declared.life.Life.TheVariants as life
 use Rattle.py_flat.specs.Calls.{FileCall, Close, Refused}
 use Rattle.py_flat.specs.FlatFile.{Unbuffered}
-use Rattle.py_flat.specs.Refusals.{is_getter, is_other_getter, is_close, lacks, lets_through, life_fault}
+use Rattle.py_flat.specs.Refusals.{is_getter, is_other_getter, lacks, lets_through, life_fault}
 use Rattle.py_raw.specs.RawStream.{KeepsReads}
 use Rattle.py_stream.specs.Answers.{Answers, IsNear}
 use Rattle.py_stream.specs.Moving.{Begins}
-use Rattle.py_stream.proofs.Alone.{detaches, begins_in_vain as stream_begins_in_vain}
 use Rattle.py_stream.proofs.Refusing.{IsPlaced, refused_by_ability, refused_by_life as life_refuses}
 use Rattle.py_stream.proofs.ReadingCalls.{reading_call}
 use Rattle.py_stream.specs.Access.{is_read}
@@ -54,10 +53,6 @@ pub begins : (old new : EngineView) (result : Result (Unit {0}) IoFault) → Beg
 begins old new (Ok done) began = (began.0, ap stream_of began.1)
 begins old new (Err why) began = (began.0, ap stream_of began.1)
 
--- each call but a close and a detaching that `begin` refuses is answered by the refusal
-pub begins_in_vain : (old new : EngineView) (call : FileCall) (why : IoFault) → Stands old → is_getter call ≡ false → is_other_getter call ≡ false → is_close call ≡ false → detaches Unbuffered call ≡ false → BeginOutcome old (Err why) new → Answers (stream_of old) call (Refused why) (stream_of new)
-begins_in_vain old new call why stands works own closes detaches began = stream_begins_in_vain (stream_of old) (stream_of new) call why (is_placed old stands) works own closes detaches (begins old new (Err why) began)
-
 -- a life that refuses anything, but of a closed stream, lets no close through either
 unclosed_by_life : (current : Life) (why : IoFault) → (current ≡ life.Closed → ⊥) → life_fault current ≡ Some why → lets_through current Unbuffered Close ≡ false
 unclosed_by_life life.Live why unclosed by = absurd (cc)
@@ -73,16 +68,6 @@ closes_in_vain old new why stands unclosed began = refused_by_life old new Close
 pub bufferless : (buffer : Option ℕ) → buffer ≡ None → IsSome buffer → ⊥
 bufferless (Some size) none some = cc
 bufferless None none some = cc
-
--- what is known of an engine with which a call begins that its life lets through
-pub record Begun (engine : EngineView) : Type 0 where
-  pub live : engine.life ≡ life.Live
-  pub whole : engine.short ≡ false
-  pub stands : Stands engine
-
--- what is known of an engine with which a call begins holds where its life lets the call through
-pub begun_live : (first now : EngineView) → Stands first → BeginOutcome first (Ok tt) now → Begun now
-begun_live first now stands began = subst Begun (sym began.1) (record { live = began.0; whole = refl; stands = stands })
 
 -- A reading begins of a stream that is read.
 

@@ -77,13 +77,7 @@ piece_is line taken = take_all (length line - taken) (drop taken line) (omega (a
 
 -- an engine after a step of its raw, at a place where that stands
 stands_on : (old : EngineView) (raw : Raw) (place : ℕ) → IsEngine old.raw old.place old.access old.life → Keeps old.raw raw → StaysOpen old.raw raw → place ≤ greatest_place → WherePlace old.raw (old.life ≡ life.Live → raw.place ≡ place) → KeepsEngine old (record old { raw = raw; place = place })
-stands_on old raw place is keeps stays far stands = record {
-  raw = keeps;
-  stays = stays;
-  access = refl;
-  short = refl;
-  is = record { far = far; able = able_stays old.access old.raw raw keeps ∙ is.able; is_open = λ live. stays ∙ is.is_open live; attached = is.attached; stands = λ tells. stands (sym keeps.tells_place ∙ tells) };
-}
+stands_on old raw place is keeps stays far stands = grind (arith, able_stays)
 
 pub put_answers : (old : EngineView) (raw : Raw) (bytes : List ℕ) (moved : Bool) (count : Option ℕ) → IsEngine old.raw old.place old.access old.life → old.life ≡ life.Live → old.place + length bytes ≤ greatest_place → Keeps old.raw raw → StaysOpen old.raw raw → GiveOutcome old.raw bytes (Ok count) raw → PutOutcome old moved bytes (Ok count) (record old { raw = raw; place = old.place + unwrap_or count 0 })
 put_answers old raw bytes moved (Some count) is live within keeps stays gives = grind (arith, stands_on)

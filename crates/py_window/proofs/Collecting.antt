@@ -42,24 +42,17 @@ shows_itself window is collects = record { is = is; collects = collects; size_is
 
 -- Putting bytes behind.
 
--- the first pending byte is the one that it was
-from_stays : (window : WindowView) → IsWindow window → Collects window → (if is_settled window then window.cursor else min window.from window.cursor) ≡ window.from
-from_stays window is collects = grind (arith, eqb_tells)
-
 -- the last pending byte is the last of those that were put
 to_follows : (window : WindowView) (after : ℕ) → Collects window → window.cursor ≤ after → (if is_settled window then after else max window.to after) ≡ after
 to_follows window after collects forth = grind (arith, eqb_tells)
-
-pasted_behind : (held bytes : List ℕ) (cursor : ℕ) → cursor ≡ length held → pasted held cursor bytes ≡ held ++ bytes
-pasted_behind held bytes cursor end = grind (arith, drop_of_length-le, append-nil, take_all)
 
 -- bytes that were put at the cursor, where there was room after it
 laid_shows : (window : WindowView) (bytes : List ℕ) (size place : ℕ) (owed : List ℕ) → window.cursor + length bytes ≤ window.size → place_of window + length bytes ≤ 9223372036854775807 → 0 < length bytes → Shows window size place owed → Shows (laid_at_cursor bytes window) size place (owed ++ bytes)
 laid_shows window bytes size place owed room far some shows =
     let after : ℕ = window.cursor + length bytes in
-    let held : pasted window.held window.cursor bytes ≡ window.held ++ bytes = pasted_behind window.held bytes window.cursor shows.collects.end in
+    let held : pasted window.held window.cursor bytes ≡ window.held ++ bytes = grind (arith, drop_of_length-le, append-nil, take_all) in
     let long : length (pasted window.held window.cursor bytes) ≡ after = ap length held ∙ (length-append window.held bytes ∙ ap (λ (n : ℕ). n + length bytes) (sym shows.collects.end)) in
-    let from : (if is_settled window then window.cursor else min window.from window.cursor) ≡ window.from = from_stays window shows.is shows.collects in
+    let from : (if is_settled window then window.cursor else min window.from window.cursor) ≡ window.from = grind (arith, eqb_tells) in
     let to : (if is_settled window then after else max window.to after) ≡ after = to_follows window after shows.collects (omega arith) in
     let put : WindowView = laid_at_cursor bytes window in
     let is_put : IsWindow put = grind (arith, long, room, far, from, to, shows.is.ordered, shows.collects.to) in

@@ -8,6 +8,7 @@ use Rattle.py_flat.specs.Bytes.{filled_to, lay}
 use Rattle.py_flat.specs.Owed.{Owed}
 use Rattle.py_flat.proofs.Laying.{length-filled_to, filled_within, lay_parts, length-lay, drop_laid}
 use Rattle.py_stream.specs.Writing.{OwesUpTo, HasAt, first_of_both, end_of_both, CoversBoth}
+use Rattle.py_stream.proofs.Owing.{has_none}
 use Rattle.py_window.specs.Window.{WindowView, IsWindow, place_of, end_of, pending_of, owed_of, is_settled, kept_before, room_of, pasted, laid_at_cursor, without_front, pushed, HoldsBytes, flat_over}
 use Rattle.py_window.proofs.Held.{from_either, held_pasted}
 
@@ -147,10 +148,6 @@ has_part whole part begins place skipped is same =
     let all : length part - 0 ≡ length part = omega arith in
     rw (behind, none, all) same
 
--- a list has none of a part that has none
-has_none : (whole : List ℕ) (begins place : ℕ) → HasAt whole begins [] place
-has_none whole begins place = grind arith
-
 -- a front of a list, by how many it has
 front_of_all : (count : ℕ) (whole : List ℕ) → take (length (take count whole)) whole ≡ take count whole
 front_of_all count whole = ap (λ (n : ℕ). take n whole) (length-take count whole) ∙ take_min count whole
@@ -170,17 +167,17 @@ end_is (byte ∷ more) (next ∷ others) start place rests some = refl
 -- What a window holds, and what is pending in it.
 
 -- the pending bytes are as many as lie from the first to the last
-pending_length : (window : WindowView) → IsWindow window → length (pending_of window) ≡ window.to - window.from
-pending_length window is = length-take-le (window.to - window.from) (drop window.from window.held) (omega (arith, length-drop window.from window.held, is.within))
+pub pending_many : (window : WindowView) → IsWindow window → length (pending_of window) ≡ window.to - window.from
+pending_many window is = length-take-le (window.to - window.from) (drop window.from window.held) (omega (arith, length-drop window.from window.held, is.within))
 
 -- where none is pending, their empty range stands at the cursor
 pub none_rests : (window : WindowView) → IsWindow window → pending_of window ≡ [] → window.begin + window.from ≡ place_of window
-none_rests window is none = omega (arith, is.rests, is.ordered, pending_length window is, ap length none)
+none_rests window is none = omega (arith, is.rests, is.ordered, pending_many window is, ap length none)
 
 -- what is owed up to the place ends at the cursor
 ends_at : (window : WindowView) → IsWindow window → OwesUpTo (owed_of window) (place_of window) → window.to ≡ window.cursor
-ends_at window is (inl none) = omega (arith, none_rests window is none, pending_length window is, ap length none, is.ordered)
-ends_at window is (inr ends) = omega (arith, ends, pending_length window is, is.ordered)
+ends_at window is (inl none) = omega (arith, none_rests window is none, pending_many window is, ap length none, is.ordered)
+ends_at window is (inr ends) = omega (arith, ends, pending_many window is, is.ordered)
 
 -- a window that holds a list's bytes has as many of them
 held_within : (flat : List ℕ) (window : WindowView) → HoldsBytes flat window → length window.held ≤ length (drop window.begin flat)
@@ -289,7 +286,7 @@ module _ (window : WindowView) (bytes : List ℕ) (is : IsWindow window) (some :
       (λ (none : window.cursor < window.from). let zero_is : count ≡ 0 = omega (arith, is_before, none) in rw zero_is (has_none (pending_of new) (window.begin + first) (window.begin + window.from)))
       (λ (before : window.from ≤ window.cursor).
       let part : List ℕ = take count (pending_of window) in
-      let many : length part ≤ min count (window.to - window.from) = omega (arith, length-take count (pending_of window), pending_length window is) in
+      let many : length part ≤ min count (window.to - window.from) = omega (arith, length-take count (pending_of window), pending_many window is) in
       has_part (pending_of new) part (window.begin + first) (window.begin + window.from) 0 (omega (arith, before))
       (part_pending window.from 0 (length part) (omega (arith, before)) (omega (arith, many, is.ordered))
       ∙ (pasted_before window.held window.cursor bytes is.cursor window.from (length part) (omega (arith, many, is_before, before))
@@ -314,7 +311,7 @@ module _ (window : WindowView) (bytes : List ℕ) (is : IsWindow window) (some :
       from_either (drop window.from window.held) count (window.to - window.from)
       ∙ (ap (take (window.to - window.from - count)) (drop-drop count window.from window.held)
       ∙ ap (λ (n : ℕ). take n (drop start window.held)) (omega arith)) in
-      let many : length part ≡ window.to - start = omega (arith, length-drop count (pending_of window), pending_length window is) in
+      let many : length part ≡ window.to - start = omega (arith, length-drop count (pending_of window), pending_many window is) in
       has_part (pending_of new) part (window.begin + first) (max (window.begin + window.from) (place_of window + length bytes)) skipped (omega (arith, is_behind))
       (ap (λ (n : ℕ). take n (drop skipped (pending_of new))) many
       ∙ (after_pending start skipped (omega arith) (omega (arith, is_behind))
@@ -327,7 +324,7 @@ module _ (window : WindowView) (bytes : List ℕ) (is : IsWindow window) (some :
       let place : ℕ = place_of window in
       record {
         from = omega (arith, first_is (pending_of window) bytes start place (none_rests window is) some);
-        to = omega (arith, as_many, end_is (pending_of window) bytes start place (none_rests window is) some, pending_length window is, is.ordered);
+        to = omega (arith, as_many, end_is (pending_of window) bytes start place (none_rests window is) some, pending_many window is, is.ordered);
         new_bytes = has_new;
         old_bytes = has_before (place - start) (omega arith);
         behind = has_behind (place + length bytes - start) (omega arith);
@@ -387,7 +384,7 @@ module _ (window : WindowView) (bytes : List ℕ) (is : IsWindow window) (some :
       let same : flat_over raw new ≡ flat =
       ap (lay raw (window.begin + first)) pending
       ∙ lays_both raw (pending_of window) bytes (window.begin + window.from) (place_of window) (window.begin + first) (last - first) (omega (arith, pends))
-      (omega arith) (omega arith) (omega (arith, pending_length window is, is.ordered)) (omega arith) (omega (arith, flat_reaches raw holds)) in
+      (omega arith) (omega arith) (omega (arith, pending_many window is, is.ordered)) (omega arith) (omega (arith, flat_reaches raw holds)) in
       record { flat = same; holds = subst (λ (held : List ℕ). HoldsBytes held new) (sym same) holds_new }
 
   -- over what is held there, the words of a window and of what is pending say the same
@@ -541,7 +538,7 @@ pub full : (window : WindowView) (bytes : List ℕ) → IsWindow window → 0 < 
 full window bytes is some room far =
     let new : WindowView = pushed bytes window in
     let over : Overlays window bytes new = overlays window bytes is some (omega (arith, room)) far in
-    omega (arith, room, is.cursor, is.held, pending_length new over.is, over.is.within, over.is.held, over.size, over.place, over.first, over.reaches)
+    omega (arith, room, is.cursor, is.held, pending_many new over.is, over.is.within, over.is.held, over.size, over.place, over.first, over.reaches)
 
 -- Pieces put one after the other, where there is room after the cursor.
 

@@ -6,7 +6,8 @@ use Rattle.py_stream.specs.Kinds.{asks_nothing}
 use Rattle.py_engine.specs.Engine.{EngineView, Stands, stream_of}
 use Rattle.py_engine.specs.Random.{AnswersOnce, gave}
 use Rattle.py_engine.proofs.SingleReading.{asks_some}
-use Rattle.py_engine.proofs.Random.{answers_from_begun, begins_not}
+use Rattle.py_engine.proofs.Calls.{answers_from_begun}
+use Rattle.py_engine.proofs.Random.{begins_not}
 use Rattle.py_engine.proofs.data.BufferedData.read1.Goals as goal
 
 pub returns-in_err-begin : goal.returns-in_err-begin
