@@ -59,6 +59,7 @@ refuses_other stream call.Close asks known stays one look into a b c d e f g h t
 refuses_other stream call.Detach asks known stays one look into a b c d e f g h t i j = absurd (stays refl)
 refuses_other stream call.ChunkSize asks known stays one look into a b c d e f g h t i j = let wrong : true ≡ false = known in absurd (cc)
 refuses_other stream (call.SetChunkSize size) asks known stays one look into a b c d e f g h t i j = (refl, refl, inr refl)
+refuses_other stream (call.Reconfigure changes) asks known stays one look into a b c d e f g h t i j = (refl, refl, inr refl)
 refuses_other stream call.Encoding asks known stays one look into a b c d e f g h t i j = let wrong : true ≡ false = known in absurd (cc)
 refuses_other stream call.Errors asks known stays one look into a b c d e f g h t i j = let wrong : true ≡ false = known in absurd (cc)
 refuses_other stream made asks known stays one look into a b c d e f g h t i j = let asked : true ≡ false = asks in absurd (cc)

@@ -3,6 +3,7 @@ use Rattle.py_flat.specs.Calls.{FileCall, FileReply, Bytes, Text, Lines, Count, 
 use Rattle.py_flat.specs.Calls as file
 use Rattle.py_plain_text.specs.TextCalls as text
 use Rattle.py_plain_text.specs.TextCalls.{TextFileCall}
+use Rattle.py_text.specs.Settings.{changes_of}
 use Rattle.py_calls.specs.declared.call.Call.{Call}
 use Rattle.py_calls.specs.declared.call.Call.TheVariants as call
 use Rattle.py_calls.specs.declared.reply.Reply.{Reply}
@@ -14,6 +15,7 @@ text_call (call.Read size) = text.Read size
 text_call (call.ReadLine limit) = text.ReadLine limit
 text_call (call.WriteText characters) = text.WriteText characters
 text_call (call.SetChunkSize size) = text.SetChunkSize size
+text_call (call.Reconfigure changes) = text.Reconfigure (changes_of changes)
 text_call call.Flush = text.Flush
 text_call call.Close = text.Close
 text_call call.ChunkSize = text.ChunkSize
@@ -52,6 +54,7 @@ file_call (call.Truncate size) = file.Truncate size
 file_call (call.WriteText text) = file.OtherKind
 file_call (call.SeekText cookie whence) = file.OtherKind
 file_call (call.SetChunkSize size) = file.OtherKind
+file_call (call.Reconfigure changes) = file.OtherKind
 
 -- what a reply says
 abbrev pub said : Reply → FileReply

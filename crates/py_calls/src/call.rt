@@ -2,6 +2,7 @@
 ghost use Rattle.std.specs.Prelude.{◌≡◌, IfOk};
 
 use py_flat::{Chars, Data, Lines};
+use py_text::Reconfigure;
 use std::alloc::{AllocError, Global};
 
 /// A call of a session, by the methods of Python's `io` streams.
@@ -49,6 +50,8 @@ pub enum Call {
     ChunkSize,
     /// Sets a text's chunk size, in bytes.
     SetChunkSize(usize),
+    /// Gives a text other settings; those that are `None` stay.
+    Reconfigure(Reconfigure),
     /// Asks whether the session reads.
     Readable,
     /// Asks whether it writes.
@@ -88,6 +91,7 @@ impl Call {
             Call::Detach => Call::Detach,
             Call::ChunkSize => Call::ChunkSize,
             Call::SetChunkSize(size) => Call::SetChunkSize(*size),
+            Call::Reconfigure(changes) => Call::Reconfigure(*changes),
             Call::Readable => Call::Readable,
             Call::Writable => Call::Writable,
             Call::Seekable => Call::Seekable,

@@ -7,4 +7,5 @@ mod call;
 mod reply;
 
 pub use call::Call;
+pub use py_text::Reconfigure;
 pub use reply::Reply;

@@ -1,5 +1,5 @@
-//! The text over a buffered stream: it asks for chunks, decodes what it has in hand, and answers from the characters that it knows. It never
-//! holds the whole stream.
+//! The text over a buffered stream: it asks for chunks, decodes what it has in hand, and answers from the characters that it knows. It holds
+//! no more of the stream than an answer has, and a chunk; of a `read` of all that is the whole rest.
 ghost use Rattle.std.specs.Prelude.{◌≡◌, Bool, ◌<◌, ◌≤◌, ◌+◌, ◌||◌, true, false, [], length, take, drop, OnErr, IfOk, IfErr, IfSome, MatchResult};
 ghost use Rattle.py_flat.specs.Calls as binary;
 ghost use Rattle.py_flat.specs.Calls.{Write};

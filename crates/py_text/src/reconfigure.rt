@@ -18,7 +18,8 @@ pub struct Reconfigure {
     pub newline: Option<Newlines>,
     /// Whether a text that has a line end is flushed once it is written.
     pub line_buffering: Option<bool>,
-    /// Whether the stream keeps nothing of what is written, and hands all of it to its buffer.
+    /// Whether the stream keeps nothing of what is written, and hands all of it to its buffer. What it kept before it keeps until the next
+    /// call that hands bytes on.
     pub write_through: Option<bool>,
 }
 

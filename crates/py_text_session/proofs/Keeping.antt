@@ -8,7 +8,7 @@ use Rattle.py_flat.specs.ExactStep.{is_closed}
 use Rattle.py_flat.specs.FlatFile.{Abilities, Buffering}
 use Rattle.py_flat.specs.Refusals.{is_unbuffered}
 use Rattle.py_plain_text.specs.TextFile.{TextFile}
-use Rattle.py_plain_text.specs.TextCalls.{TextFileCall, Read, ReadLine, WriteText, SetChunkSize, Flush, Close, OtherKind}
+use Rattle.py_plain_text.specs.TextCalls.{TextFileCall, Read, ReadLine, WriteText, Reconfigure, SetChunkSize, Flush, Close, OtherKind}
 use Rattle.py_plain_text.specs.TextRefusals.{refusal}
 use Rattle.py_stream.specs.Buffer.{Buffer, IsClosedWithRaw}
 use Rattle.py_read_text.specs.TextState.{TextState, file_of}
@@ -21,6 +21,7 @@ is_made (Read size) = true
 is_made (ReadLine limit) = true
 is_made (WriteText text) = true
 is_made (SetChunkSize size) = true
+is_made (Reconfigure changes) = true
 is_made Flush = true
 is_made Close = true
 is_made OtherKind = true
@@ -33,6 +34,7 @@ failed_refuses file (Read size) made is = rw is refl
 failed_refuses file (ReadLine limit) made is = rw is refl
 failed_refuses file (WriteText text) made is = rw is refl
 failed_refuses file (SetChunkSize size) made is = rw is refl
+failed_refuses file (Reconfigure changes) made is = rw is refl
 failed_refuses file Flush made is = rw is refl
 failed_refuses file Close made is = rw is refl
 failed_refuses file OtherKind made is = rw is refl
@@ -48,6 +50,7 @@ closed_stays before (Read size) reply after made is answers = (answers.refused f
 closed_stays before (ReadLine limit) reply after made is answers = (answers.refused fault.Closed (rw is refl)).same
 closed_stays before (WriteText text) reply after made is answers = (answers.refused fault.Closed (rw is refl)).same
 closed_stays before (SetChunkSize size) reply after made is answers = (answers.refused fault.Closed (rw is refl)).same
+closed_stays before (Reconfigure changes) reply after made is answers = (answers.refused fault.Closed (rw is refl)).same
 closed_stays before Flush reply after made is answers = (answers.refused fault.Closed (rw is refl)).same
 closed_stays before OtherKind reply after made is answers = (answers.refused fault.Closed (rw is refl)).same
 closed_stays before call reply after made is answers = absurd (cc)

@@ -3,7 +3,9 @@ ghost use Rattle.std.specs.Prelude.{◌≡◌, ◌≢◌, ◌<◌, ◌≤◌, �
 ghost use Rattle.py_flat.specs.Calls.{Refused};
 ghost use Rattle.py_flat.specs.ExactStep.{is_closed};
 ghost use Rattle.py_plain_text.specs.TextCalls.{Read, ReadLine, WriteText, SetChunkSize, Flush, Close, OtherKind};
+ghost use Rattle.py_plain_text.specs.TextCalls as text_call;
 ghost use Rattle.py_plain_text.specs.TextRefusals.{fits_handler};
+ghost use Rattle.py_text.specs.Settings.{changes_of};
 ghost use Rattle.py_stream.specs.Access.{can_of};
 ghost use Rattle.py_stream.specs.Opening.{StandsAtStart};
 ghost use Rattle.py_stream.specs.Replies.{count_reply, done_reply};
@@ -22,7 +24,7 @@ use py_flat::{Chars, IoFault, Life};
 use py_plain::{Encoding, Handler, Newlines};
 use py_raw::RawStream;
 use py_stream::{Access, Detached, NewRefused};
-use py_text::{Coder, TextSettings};
+use py_text::{Coder, Reconfigure, TextSettings};
 use py_textio::{TextDetached, TextIOWrapper};
 use std::alloc::Global;
 use std::marker::Model;
@@ -168,6 +170,20 @@ impl<R: RawStream> TextSession<R> {
         ensures { Answers self.old (SetChunkSize size) (done_reply result) self.new }
     {
         self.text.set_chunksize(size)
+    }
+
+    /// Gives it other settings: those that aren't given stay. It calls no raw, and takes no memory.
+    ///
+    /// From its place on the text is read by the new ones: also what was decoded by the old ones and not given, as after a read that was
+    /// refused. What was written by then keeps its bytes, and what the session owes of them it owes still.
+    ///
+    /// `SeekFirst` where encoding, errors or newline are given and the text was read since it was placed, or since a `read` of all came to
+    /// its end; `UnknownHandler` where the handler isn't one of those that the text is read and written with, as far as it is: with all as
+    /// it was.
+    pub fn reconfigure(&mut self, changes: Reconfigure) -> Result<(), IoFault>
+        ensures { Answers self.old (text_call.Reconfigure (changes_of changes)) (done_reply result) self.new }
+    {
+        self.text.reconfigure(changes)
     }
 
     /// Passes on all that was written: the raw has it then.
