@@ -4,7 +4,7 @@
 use crate::noting::Noting;
 use py_mode::{OpenArgs, plan_open};
 use py_program::Status;
-use py_raw::Source;
+use py_raw::{IoFault, Source};
 use py_raw_files::FileOpener;
 use py_registry::{CodecsRegistry, NoHandler, NoSearch};
 use py_script::{Command, parse_line, parse_words};
@@ -70,7 +70,11 @@ fn words_complaint(alloc: Global, words: &[String]) -> Result<String, AllocError
 /// Whether the plan of the program refuses an opening.
 fn is_refused(alloc: Global, mode: &str, args: &OpenArgs) -> Result<bool, AllocError> {
     match CodecsRegistry::<NoSearch, NoHandler>::new(alloc) {
-        Ok(mut registry) => Ok(plan_open(&mut registry, alloc, mode, args).is_err()),
+        Ok(mut registry) => match plan_open(&mut registry, alloc, mode, args) {
+            Ok(_) => Ok(false),
+            Err(IoFault::NoMemory) => Err(AllocError),
+            Err(_) => Ok(true),
+        },
         Err(_) => Err(AllocError),
     }
 }

@@ -8,3 +8,5 @@ pub mod Gone
 pub mod InRaw
 pub mod Names
 pub mod Joining
+pub mod OpenedRaw
+pub mod IoOpening

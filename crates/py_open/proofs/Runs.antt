@@ -5,7 +5,7 @@ use Rattle.py_flat.specs.declared.life.Life.TheVariants as life
 use Rattle.py_flat.specs.Limits.{greatest_count}
 use Rattle.py_flat.specs.Calls.{FileReply, Refused}
 use Rattle.py_flat.specs.declared.fault.IoFault.{IoFault}
-use Rattle.py_plain_text.specs.TextFile.{TextSettings, TextFile}
+use Rattle.py_plain_text.specs.TextFile.{TextFile}
 use Rattle.py_plain_text.specs.TextCalls as text
 use Rattle.py_plain_text.specs.TextCalls.{TextFileCall}
 use Rattle.py_plain_text.specs.TextRefusals as refusals
@@ -27,7 +27,7 @@ use Rattle.py_open.specs.Session.{SessionFile, OfText, OfBinary, SessionView, Te
 use Rattle.py_open.specs.Opening.{access_of, OpensBy, OpensSession}
 use Rattle.py_open.specs.Run.{Entry, IsRun, IsHistory, IsCalm, IsSmooth, NoneLacksMemory, AllSettle, all_said, calls_of, replies_of}
 use Rattle.py_open.specs.Laws.{session_exact, exact_replies, exact_after, IsExact, HasHistory, RunsInTwo, RunsComplete, KeepsSettings, OnlyReads, SayAll, closed_reply, StaysClosed}
-use Rattle.py_open.proofs.Steps.{step_keeps, step_told, step_settles, smooth_step, step_completes, step_in_step, step_reads, step_spares, step_writes_none, step_shuts}
+use Rattle.py_open.proofs.Steps.{settings_kept, step_keeps, step_told, step_settles, smooth_step, step_completes, step_in_step, step_reads, step_spares, step_writes_none, step_shuts}
 use Rattle.py_open.proofs.Ending.{step_closed}
 use Rattle.py_open.proofs.Resting.{never_detaches}
 
@@ -46,15 +46,19 @@ run_keeps_raw before [] (reply ∷ replies) after run = absurd run
 run_keeps_raw before (call ∷ calls) [] after run = absurd run
 
 settings_self : (session : SessionView) → KeepsSettings session [] session
-settings_self (TextSession text) = (refl, record { others = refl; chunk = λ none. refl }, refl)
+settings_self (TextSession text) = (refl, settings_kept text.text.settings [] text.text.settings refl, refl)
 settings_self (BinarySession stream) = (refl, refl)
 
 settings_on : (first mid last : SessionView) (call : Call) (calls : List Call) → KeepsSettings first (call ∷ []) mid → KeepsSettings mid calls last → KeepsSettings first (call ∷ calls) last
 settings_on (TextSession first) (TextSession mid) (TextSession last) call calls a b = (
   b.0 ∙ a.0,
   record {
-    others = b.1.others ∙ ap (λ (settings : TextSettings). record settings { chunk_size = last.text.settings.chunk_size }) a.1.others;
-    chunk = λ none. b.1.chunk none.1 ∙ a.1.chunk (none.0, tt);
+    encoding = λ none. b.1.encoding none.1 ∙ a.1.encoding (none.0, tt);
+    handler = λ none. b.1.handler none.1 ∙ a.1.handler (none.0, tt);
+    newline = λ none. b.1.newline none.1 ∙ a.1.newline (none.0, tt);
+    line_buffering = λ none. b.1.line_buffering none.1 ∙ a.1.line_buffering (none.0, tt);
+    write_through = λ none. b.1.write_through none.1 ∙ a.1.write_through (none.0, tt);
+    chunk_size = λ none. b.1.chunk_size none.1 ∙ a.1.chunk_size (none.0, tt);
   },
   b.2 ∙ a.2,
 )

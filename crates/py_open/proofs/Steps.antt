@@ -1,5 +1,5 @@
 -- What one call of a session does, by its kind.
-use Rattle.std.proofs.Common.{inl, inr, ◌≡◌, ◌≢◌, ◌⊎◌, ◌||◌, ℕ, Bool, true, false, IsTrue, List, [], ◌∷◌, Some, None, refl, sym, ap, ◌∙◌, subst, if◌then◌else◌, arith}
+use Rattle.std.proofs.Common.{inl, inr, ◌≡◌, ◌≢◌, ◌⊎◌, ◌||◌, ℕ, Bool, true, false, IsTrue, List, [], ◌∷◌, Option, Some, None, is_some, unwrap_or, refl, sym, ap, ◌∙◌, subst, if◌then◌else◌, arith}
 use Rattle.std.proofs.lemmas.Bool.{le-leb}
 use Rattle.py_flat.specs.declared.fault.IoFault.{IoFault}
 use Rattle.py_flat.specs.declared.fault.IoFault.TheVariants as fault
@@ -16,7 +16,7 @@ use Rattle.py_flat.specs.AllowedStep.{settled, waited_for, raw_faulted, out_of_m
 use Rattle.py_flat.specs.BinaryStep.{Settled, BinaryStep}
 use Rattle.py_plain_text.specs.TextFile.{TextSettings, TextFile}
 use Rattle.py_plain_text.specs.TextCalls as text
-use Rattle.py_plain_text.specs.TextCalls.{TextFileCall, tells_name}
+use Rattle.py_plain_text.specs.TextCalls.{TextFileCall, Changes, changed, tells_name}
 use Rattle.py_plain_text.specs.TextRefusals as refusals
 use Rattle.py_plain_text.specs.TextExact.{carried_out, exact}
 use Rattle.py_plain_text.specs.TextAllowed as text_file
@@ -28,6 +28,7 @@ use Rattle.py_stream.specs.Kinds.{says_fault}
 use Rattle.py_stream.specs.Answers.{HasCauses, ClosedWith, LifeMoves}
 use Rattle.py_stream.specs.Buffer.{Buffer, parts_when_closed}
 use Rattle.py_stream.specs.Handing.{owed_then}
+use Rattle.py_text.specs.Settings.{changes_of}
 use Rattle.py_calls.specs.declared.call.Call.{Call}
 use Rattle.py_calls.specs.declared.call.Call.TheVariants as call
 use Rattle.py_calls.specs.declared.reply.Reply.{Reply}
@@ -40,7 +41,7 @@ use Rattle.py_binary.specs.Binary.{gone_stream, left_by, left_of, HandsOwed, Ans
 use Rattle.py_binary.proofs.Leaving.{attached_on}
 use Rattle.py_open.specs.Session.{SessionFile, OfText, OfBinary, SessionView, TextSession, BinarySession, IsDetached, FileLeftBy, FileLeft, SaysOrStarves, AnswersTextBy, StaysOpenWithText, FileStepBy, SessionStep, FileSettlesBy, Settles, file_seen, raw_of, life_of, short_of, Answers, IsInStep}
 use Rattle.py_open.specs.Run.{IsSmooth}
-use Rattle.py_open.specs.Laws.{CompletesText, CompletesFile, Completes, sets_chunk, KeepsText, KeepsSettings, OnlyReads}
+use Rattle.py_open.specs.Laws.{CompletesText, CompletesFile, Completes, gives_encoding, gives_handler, gives_newline, gives_line_buffering, gives_write_through, gives_chunk_size, KeepsText, KeepsSettings, OnlyReads}
 use Rattle.py_stream.proofs.Closing.{closes_whole}
 
 -- What is left of a stream.
@@ -107,23 +108,69 @@ text_refused_by file call current why is asks passes fails = rw (asks, is, passe
 
 -- What every call keeps.
 
--- the settings that a text has after a call
-size_stays : (size : ℕ) (reply : FileReply) (settings : TextSettings) → over.settings_after (text.SetChunkSize size) reply settings ≡ record settings { chunk_size = (over.settings_after (text.SetChunkSize size) reply settings).chunk_size }
-size_stays size Done settings = refl
-size_stays size reply settings = refl
+-- a setting that isn't given stays
+unset : {A : Type 0} → (given : Option A) (own : A) → is_some given ≡ false → unwrap_or given own ≡ own
+unset None own is = refl
+unset (Some other) own is = absurd (cc)
 
-settings_stay : (call : Call) (reply : FileReply) (settings : TextSettings) → over.settings_after (text_call call) reply settings ≡ record settings { chunk_size = (over.settings_after (text_call call) reply settings).chunk_size }
-settings_stay (call.SetChunkSize size) reply settings = size_stays size reply settings
-settings_stay call reply settings = refl
+-- what is read of a text's settings after it is given others, or a chunk size
+changed_stay : {A : Type 0} → (read : TextSettings → A) (given : Option A) (changes : Changes) (reply : FileReply) (settings : TextSettings) → read (changed settings changes) ≡ unwrap_or given (read settings) → is_some given ≡ false → read (over.settings_after (text.Reconfigure changes) reply settings) ≡ read settings
+changed_stay read given changes Done settings is none = is ∙ unset given (read settings) none
+changed_stay read given changes reply settings is none = refl
 
-chunk_stays : (call : Call) (reply : FileReply) (settings : TextSettings) → sets_chunk call ≡ false → over.settings_after (text_call call) reply settings ≡ settings
+sized_stay : {A : Type 0} → (read : TextSettings → A) (size : ℕ) (reply : FileReply) (settings : TextSettings) → read (record settings { chunk_size = size }) ≡ read settings → read (over.settings_after (text.SetChunkSize size) reply settings) ≡ read settings
+sized_stay read size Done settings is = is
+sized_stay read size reply settings is = refl
+
+encoding_stays : (call : Call) (reply : FileReply) (settings : TextSettings) → gives_encoding call ≡ false → (over.settings_after (text_call call) reply settings).encoding ≡ settings.encoding
+encoding_stays (call.Reconfigure changes) reply settings is = changed_stay (λ own. own.encoding) changes.encoding (changes_of changes) reply settings refl is
+encoding_stays (call.SetChunkSize size) reply settings is = sized_stay (λ own. own.encoding) size reply settings refl
+encoding_stays call reply settings is = refl
+
+handler_stays : (call : Call) (reply : FileReply) (settings : TextSettings) → gives_handler call ≡ false → (over.settings_after (text_call call) reply settings).handler ≡ settings.handler
+handler_stays (call.Reconfigure changes) reply settings is = changed_stay (λ own. own.handler) changes.errors (changes_of changes) reply settings refl is
+handler_stays (call.SetChunkSize size) reply settings is = sized_stay (λ own. own.handler) size reply settings refl
+handler_stays call reply settings is = refl
+
+newline_stays : (call : Call) (reply : FileReply) (settings : TextSettings) → gives_newline call ≡ false → (over.settings_after (text_call call) reply settings).newline ≡ settings.newline
+newline_stays (call.Reconfigure changes) reply settings is = changed_stay (λ own. own.newline) changes.newline (changes_of changes) reply settings refl is
+newline_stays (call.SetChunkSize size) reply settings is = sized_stay (λ own. own.newline) size reply settings refl
+newline_stays call reply settings is = refl
+
+lines_stay : (call : Call) (reply : FileReply) (settings : TextSettings) → gives_line_buffering call ≡ false → (over.settings_after (text_call call) reply settings).line_buffering ≡ settings.line_buffering
+lines_stay (call.Reconfigure changes) reply settings is = changed_stay (λ own. own.line_buffering) changes.line_buffering (changes_of changes) reply settings refl is
+lines_stay (call.SetChunkSize size) reply settings is = sized_stay (λ own. own.line_buffering) size reply settings refl
+lines_stay call reply settings is = refl
+
+through_stays : (call : Call) (reply : FileReply) (settings : TextSettings) → gives_write_through call ≡ false → (over.settings_after (text_call call) reply settings).write_through ≡ settings.write_through
+through_stays (call.Reconfigure changes) reply settings is = changed_stay (λ own. own.write_through) changes.write_through (changes_of changes) reply settings refl is
+through_stays (call.SetChunkSize size) reply settings is = sized_stay (λ own. own.write_through) size reply settings refl
+through_stays call reply settings is = refl
+
+chunk_stays : (call : Call) (reply : FileReply) (settings : TextSettings) → gives_chunk_size call ≡ false → (over.settings_after (text_call call) reply settings).chunk_size ≡ settings.chunk_size
+chunk_stays (call.Reconfigure changes) reply settings is = changed_stay (λ own. own.chunk_size) None (changes_of changes) reply settings refl refl
 chunk_stays (call.SetChunkSize size) reply settings is = absurd (cc)
 chunk_stays call reply settings is = refl
 
+-- settings that are the same are kept
+pub settings_kept : (before : TextSettings) (calls : List Call) (after : TextSettings) → after ≡ before → KeepsText before calls after
+settings_kept before calls after is = record {
+  encoding = λ none. ap (λ (settings : TextSettings). settings.encoding) is;
+  handler = λ none. ap (λ (settings : TextSettings). settings.handler) is;
+  newline = λ none. ap (λ (settings : TextSettings). settings.newline) is;
+  line_buffering = λ none. ap (λ (settings : TextSettings). settings.line_buffering) is;
+  write_through = λ none. ap (λ (settings : TextSettings). settings.write_through) is;
+  chunk_size = λ none. ap (λ (settings : TextSettings). settings.chunk_size) is;
+}
+
 text_settings_keep : (before : TextSettings) (call : Call) (reply : FileReply) (after : TextSettings) → after ≡ over.settings_after (text_call call) reply before → KeepsText before (call ∷ []) after
 text_settings_keep before call reply after is = record {
-  others = subst (λ (settings : TextSettings). settings ≡ record before { chunk_size = settings.chunk_size }) (sym is) (settings_stay call reply before);
-  chunk = λ none. ap (λ (settings : TextSettings). settings.chunk_size) (is ∙ chunk_stays call reply before none.0);
+  encoding = λ none. ap (λ (settings : TextSettings). settings.encoding) is ∙ encoding_stays call reply before none.0;
+  handler = λ none. ap (λ (settings : TextSettings). settings.handler) is ∙ handler_stays call reply before none.0;
+  newline = λ none. ap (λ (settings : TextSettings). settings.newline) is ∙ newline_stays call reply before none.0;
+  line_buffering = λ none. ap (λ (settings : TextSettings). settings.line_buffering) is ∙ lines_stay call reply before none.0;
+  write_through = λ none. ap (λ (settings : TextSettings). settings.write_through) is ∙ through_stays call reply before none.0;
+  chunk_size = λ none. ap (λ (settings : TextSettings). settings.chunk_size) is ∙ chunk_stays call reply before none.0;
 }
 
 text_keeps : (getter : Bool) (before : TextState) (call : Call) (reply : FileReply) (after : TextState) → AnswersTextBy getter before (text_call call) reply after → Keeps before.text.buffer.raw after.text.buffer.raw × KeepsSettings (TextSession before) (call ∷ []) (TextSession after)
@@ -131,10 +178,7 @@ text_keeps true before call reply after step = (
   subst (λ (raw : Raw). Keeps before.text.buffer.raw raw) (sym (ap (λ (t : TextState). t.text.buffer.raw) step.same)) (keeps_same before.text.buffer.raw),
   (
     ap (λ (t : TextState). t.text.buffer.can) step.same,
-    record {
-      others = ap (λ (t : TextState). t.text.settings) step.same ∙ ap (λ (size : ℕ). record before.text.settings { chunk_size = size }) (sym (ap (λ (t : TextState). t.text.settings.chunk_size) step.same));
-      chunk = λ none. ap (λ (t : TextState). t.text.settings.chunk_size) step.same;
-    },
+    settings_kept before.text.settings (call ∷ []) after.text.settings (ap (λ (t : TextState). t.text.settings) step.same),
     ap (λ (t : TextState). t.text.buffer.buffering) step.same,
   ),
 )

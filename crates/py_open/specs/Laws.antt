@@ -1,5 +1,5 @@
 -- What holds of whole runs, whatever raw is below.
-use Rattle.std.specs.Prelude.{◌≡◌, Bool, true, false, ℕ, List, [], ◌∷◌, None}
+use Rattle.std.specs.Prelude.{◌≡◌, Bool, true, false, ℕ, List, [], ◌∷◌, None, is_some}
 use Rattle.py_flat.specs.declared.fault.IoFault.TheVariants as fault
 use Rattle.py_flat.specs.Calls.{FileCall, FileReply, Done, Count, Unwritten, Refused}
 use Rattle.py_flat.specs.Calls as file
@@ -87,20 +87,44 @@ RunsComplete before (call ∷ calls) [] after = ⊥
 
 -- What stays.
 
--- whether a call sets how many bytes a text asks for at once
-abbrev pub sets_chunk : Call → Bool
-sets_chunk (call.SetChunkSize size) = true
-sets_chunk call = false
+-- whether a call gives a text an encoding, a handler, a newline rule, a line buffering, a write through, or a chunk size
+abbrev pub gives_encoding : Call → Bool
+gives_encoding (call.Reconfigure changes) = is_some changes.encoding
+gives_encoding call = false
+
+abbrev pub gives_handler : Call → Bool
+gives_handler (call.Reconfigure changes) = is_some changes.errors
+gives_handler call = false
+
+abbrev pub gives_newline : Call → Bool
+gives_newline (call.Reconfigure changes) = is_some changes.newline
+gives_newline call = false
+
+abbrev pub gives_line_buffering : Call → Bool
+gives_line_buffering (call.Reconfigure changes) = is_some changes.line_buffering
+gives_line_buffering call = false
+
+abbrev pub gives_write_through : Call → Bool
+gives_write_through (call.Reconfigure changes) = is_some changes.write_through
+gives_write_through call = false
+
+abbrev pub gives_chunk_size : Call → Bool
+gives_chunk_size (call.SetChunkSize size) = true
+gives_chunk_size call = false
 
 -- none of these calls does
-abbrev pub SetsNone : List Call → Type 0
-SetsNone [] = Unit {0}
-SetsNone (call ∷ calls) = (sets_chunk call ≡ false) × SetsNone calls
+abbrev pub NoneGives : (Call → Bool) → List Call → Type 0
+NoneGives gives [] = Unit {0}
+NoneGives gives (call ∷ calls) = (gives call ≡ false) × NoneGives gives calls
 
--- the settings of a text stay, but for its chunk size, which only such a call sets
+-- each setting of a text stays over calls of which none gives another
 pub record KeepsText (before : TextSettings) (calls : List Call) (after : TextSettings) : Type 0 where
-  pub others : after ≡ record before { chunk_size = after.chunk_size }
-  pub chunk : SetsNone calls → after.chunk_size ≡ before.chunk_size
+  pub encoding : NoneGives gives_encoding calls → after.encoding ≡ before.encoding
+  pub handler : NoneGives gives_handler calls → after.handler ≡ before.handler
+  pub newline : NoneGives gives_newline calls → after.newline ≡ before.newline
+  pub line_buffering : NoneGives gives_line_buffering calls → after.line_buffering ≡ before.line_buffering
+  pub write_through : NoneGives gives_write_through calls → after.write_through ≡ before.write_through
+  pub chunk_size : NoneGives gives_chunk_size calls → after.chunk_size ≡ before.chunk_size
 
 -- what a session can do, its kind and its settings, stay over these calls
 abbrev pub KeepsSettings : SessionView → List Call → SessionView → Type 0

@@ -3,3 +3,5 @@ pub mod Kinds
 pub mod Opening
 pub mod Run
 pub mod Laws
+pub mod Paths
+pub mod Failed

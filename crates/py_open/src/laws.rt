@@ -14,7 +14,11 @@ ghost use Rattle.py_calls.specs.declared.reply.Reply.TheVariants.{Done};
 ghost use Rattle.py_calls.specs.Calls.{said};
 ghost use Rattle.py_open.specs.Session.{SessionFile, OfText, SessionView, Answers, IsInStep, HasOpenRaw, file_seen, raw_of, life_of, life_in, bytes_in, SessionStep};
 ghost use Rattle.py_mode.specs.declared.plan.OpenPlan.{OpenPlan};
-ghost use Rattle.py_open.specs.Opening.{OpensSession};
+ghost use Rattle.py_flat.specs.declared.fault.IoFault.{IoFault};
+ghost use Rattle.py_raw.specs.Opener.{IsOpened};
+ghost use Rattle.py_mode.specs.Plan.{IsPlanned};
+ghost use Rattle.py_open.specs.Opening.{OpensSession, RefusesSession};
+ghost use Rattle.py_open.specs.Paths.{raw_mode, RefusesOrLacks};
 ghost use Rattle.py_open.specs.Run.{Entry, IsRun, IsHistory, IsCalm, IsSmooth, NoneLacksMemory, AllSettle, all_said, calls_of, replies_of};
 ghost use Rattle.py_open.specs.Laws.{IsExact, HasHistory, RunsInTwo, RunsComplete, KeepsSettings, OnlyReads, PassesAll, HoldsFlat, StaysClosed, StaysDetached, FileStaysDetached};
 
@@ -76,8 +80,8 @@ pub fn counts_never_fall()
     ensures waits { (before : SessionView) (calls : List Call) (replies : List Reply) (after : SessionView) → IsRun before calls replies after → (raw_of before).waits ≤ (raw_of after).waits }
 {}
 
-/// Over a run what the raw and the session can do stays, and so do the session's kind, the buffer's size and a text's settings, but for
-/// its chunk size where a call sets it.
+/// Over a run what the raw and the session can do stays, and so do the session's kind and the buffer's size. Each of a text's settings
+/// stays too where none of the calls gives another: of the chunk size a `SetChunkSize`, of the others a `Reconfigure`.
 pub fn a_run_keeps_the_settings()
     ensures raw { (before : SessionView) (calls : List Call) (replies : List Reply) (after : SessionView) → IsRun before calls replies after → Keeps (raw_of before) (raw_of after) }
     ensures session { (before : SessionView) (calls : List Call) (replies : List Reply) (after : SessionView) → IsRun before calls replies after → KeepsSettings before calls after }
@@ -106,6 +110,12 @@ pub fn what_is_passed_on_is_in_the_raw()
 /// session passed on stays in its raw.
 pub fn an_ended_session_calls_no_raw()
     ensures { (before : SessionView) (calls : List Call) (replies : List Reply) (after : SessionView) → IsRun before calls replies after → life_of before ≢ life.Live → raw_of after ≡ raw_of before }
+{}
+
+/// A raw that was opened by a plan's mode suits the plan: no session is refused over it but for want of memory, where the raw fails to say
+/// where it stands or ends, or to move there, or where it can't seek and the plan's stream is read and written through a buffer.
+pub fn an_opened_raw_suits_its_plan()
+    ensures { (raw back : Raw) (plan : OpenPlan) (refused : IoFault) → IsPlanned plan → IsOpened (raw_mode plan) raw → RefusesSession raw plan refused back → RefusesOrLacks raw plan refused back }
 {}
 
 /// A raw that is closed just where its session is stays so over a run of a session that only reads: only a `Close` closes it, and

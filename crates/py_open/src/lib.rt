@@ -1,11 +1,13 @@
 //! Opening by a mode, and sessions: calls made one by one, each answered as the model says.
 //!
-//! `run_session` opens a session over a raw stream, a text or a stream of bytes, and makes a list of calls; its replies are a
-//! run of the model from the opening's flat file to the session's own.
+//! `io_open` opens a path by a mode, over the raw stream that an opener opens. `run_session` opens a session over a raw stream, a text or a
+//! stream of bytes, and makes a list of calls; its replies are a run of the model from the opening's flat file to the session's own.
 #![tactic(auto)]
 
 mod laws;
+mod open_failed;
 mod open_refused;
+mod paths;
 mod run;
 mod session;
 mod text_calls;
@@ -16,11 +18,13 @@ pub use laws::{
     a_run_answers_each_call, a_run_is_a_history, a_run_keeps_the_settings, a_run_splits_anywhere,
     a_session_that_reads_spares_the_bytes, a_settled_text_is_exact, a_smooth_run_is_complete,
     a_smooth_run_settles, a_smooth_run_that_closes_leaves_its_file_in_the_raw,
-    an_ended_session_calls_no_raw, counts_never_fall, two_runs_are_a_run,
-    what_is_passed_on_is_in_the_raw,
+    an_ended_session_calls_no_raw, an_opened_raw_suits_its_plan, counts_never_fall,
+    two_runs_are_a_run, what_is_passed_on_is_in_the_raw,
 };
+pub use open_failed::OpenFailed;
 pub use open_refused::OpenRefused;
-pub use py_calls::{Call, Reply};
+pub use paths::{io_open, open_code};
+pub use py_calls::{Call, Reconfigure, Reply};
 pub use py_flat::ParseModeError;
 pub use py_mode::{
     DEFAULT_BUFFER_SIZE, EncodeMode, FileMode, Mode, OpenArgs, OpenPlan, PlanKind, TextPlan,

@@ -87,8 +87,8 @@ impl<R: RawStream> Session<R> {
 
     /// Makes one call.
     ///
-    /// A text has `Read`, `ReadLine`, `WriteText`, as far as it reads and writes, `SetChunkSize`, `Flush` and `Close`; a stream of bytes
-    /// all but the calls of texts, as far as it reads, writes and can be moved, and without a buffer no `Read1`, `ReadInto1`, `Peek` and
+    /// A text has `Read`, `ReadLine`, `WriteText`, as far as it reads and writes, `SetChunkSize`, `Reconfigure`, `Flush` and `Close`; a
+    /// stream of bytes all but the calls of texts, as far as it reads, writes and can be moved, and without a buffer no `Read1`, `ReadInto1`, `Peek` and
     /// `Detach`. The four questions `Readable`, `Writable`, `Seekable` and `Closed` are answered by a `Flag` in every life, and so are a
     /// text's `ChunkSize` by a `Count` of bytes, `Encoding` and `Errors` by a `Name`, or `NoMemory` for that.
     ///
@@ -100,7 +100,7 @@ impl<R: RawStream> Session<R> {
     /// - `Write` answers how many bytes were taken: all, or without a buffer those of one transfer; `WriteLines` is `Done`. `WriteText`
     ///   answers how many characters the text has: it is written whole, by the text's newline rule, or not at all. With line buffering a text
     ///   that has LF or CR is passed on at once.
-    /// - `SetChunkSize` is `Done`. `Seek` and `Tell` answer the place, `Truncate` the size, `Flush` and `Close` `Done`. `Detach` answers what is unwritten, and its place; the
+    /// - `SetChunkSize` and `Reconfigure` are `Done`. `Seek` and `Tell` answer the place, `Truncate` the size, `Flush` and `Close` `Done`. `Detach` answers what is unwritten, and its place; the
     ///   raw stays with the session, and every call is `Detached` from then on, but the questions.
     ///
     /// A write without a buffer whose raw would have blocked is `NotReady`, with nothing taken. Else a call is `Refused`:
@@ -109,9 +109,10 @@ impl<R: RawStream> Session<R> {
     ///   `Close` (which may be made again), `Detached` after a `Detach`; then `Unsupported` to a call that the session lacks,
     ///   `BadWhence`, `NegativeSeek` and `TooFar`: no raw is called, but for a `Seek` from the end, and all stays as it was.
     ///   `ChunkSize`, `Encoding` and `Errors` are `Unsupported` in every life of a stream of bytes.
-    /// - `BadArgument` for a chunk size of 0, `SeekFirst` where a text is written from which characters were read since it was opened, but
-    ///   for those of a `Read` of all, which reads to the end and so makes it writable again, `TooFar` where a write would end past the
-    ///   greatest place: with all as it was.
+    /// - `BadArgument` for a chunk size of 0, `SeekFirst` where a text is written, or given an encoding, a handler or a newline rule to be
+    ///   read by, once a reading that asked for characters was answered, also by none at the end; after a `Read` of all that was answered
+    ///   in full it may be written, and given them, again, `UnknownHandler` where a text is given a handler that it isn't read or written with, `TooFar` where a write would
+    ///   end past the greatest place: with all as it was.
     /// - `UnicodeDecodeError`, with byte places from the start of the stream, where a range that the text's handler refuses stands before the
     ///   end of its answer: place and life stay, and a shorter read gives the characters before it. `UnicodeEncodeError`, with places in
     ///   characters, where a `WriteText` has a character that its encoding hasn't and its handler refuses: nothing is written.

@@ -35,6 +35,7 @@ fn made<R: RawStream>(alloc: Global, text: &mut TextSession<R>, call: &Call) -> 
         Call::ReadLine(limit) => text_reply(text.readline(alloc, *limit)),
         Call::WriteText(written) => count_reply(text.write(alloc, written.as_str())),
         Call::SetChunkSize(size) => done_reply(text.set_chunksize(*size)),
+        Call::Reconfigure(changes) => done_reply(text.reconfigure(*changes)),
         Call::Flush => done_reply(text.flush()),
         Call::Close => done_reply(text.close()),
         Call::ChunkSize => {

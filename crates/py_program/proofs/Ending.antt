@@ -16,7 +16,8 @@ use Rattle.py_script.specs.CommandWords.{Command, Run, Help, Version, command_of
 use Rattle.py_program.specs.declared.status.Status.{Status}
 use Rattle.py_program.specs.declared.status.Status.TheVariants as status
 use Rattle.py_program.specs.Status.{code_of}
-use Rattle.py_program.specs.Outcome.{Outside, Asked, raw_mode, asked_by, MovesRaw, RefusesOpened, OpensPath, OpenerFails, LacksMemory, CallsOutcome, PlannedOutcome, own_text, PrintsText, RunsScript, Outcome, Ends}
+use Rattle.py_open.specs.Paths.{raw_mode, MovesRaw, RefusesOpened}
+use Rattle.py_program.specs.Outcome.{Outside, Asked, asked_by, OpensPath, OpenerFails, LacksMemory, CallsOutcome, PlannedOutcome, own_text, PrintsText, RunsScript, Outcome, Ends}
 use Rattle.py_program.specs.Meaning.{IsRefusedPlan, AsksToRead, MayNotMove, LeavesPaths, KeepsOthers, IsAcceptedAt, TellsWellFormed}
 use Rattle.py_program.proofs.Planned.{one_plan}
 use Rattle.py_program.proofs.Keeping.{path_spares, path_keeps, path_left}

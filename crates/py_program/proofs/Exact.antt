@@ -43,7 +43,8 @@ use Rattle.py_script.specs.CommandWords.{Command, Run, command_of}
 use Rattle.py_program.specs.declared.status.Status.{Status}
 use Rattle.py_program.specs.declared.status.Status.TheVariants as status
 use Rattle.py_program.specs.Status.{code_of}
-use Rattle.py_program.specs.Outcome.{Outside, raw_mode, asked_by, own_text, closed_calls, OpensPath, FollowsPlan, PlannedOutcome, RunsScript, Outcome, Ends}
+use Rattle.py_open.specs.Paths.{raw_mode}
+use Rattle.py_program.specs.Outcome.{Outside, asked_by, own_text, closed_calls, OpensPath, FollowsPlan, PlannedOutcome, RunsScript, Outcome, Ends}
 use Rattle.py_program.specs.Meaning.{RawsAreReady, PrintsReplies, PrintsSettled, PrintsExactly, begins_with, text_by, file_by, opened_file}
 use Rattle.py_program.proofs.Planned.{one_plan}
 use Rattle.py_program.proofs.Keeping.{opening_keeps, opened_to_read, file_read}

@@ -28,7 +28,8 @@ use Rattle.py_open.specs.Laws.{OnlyReads}
 use Rattle.py_open.proofs.Runs.{run_spares}
 use Rattle.py_program.specs.declared.status.Status.{Status}
 use Rattle.py_program.specs.declared.status.Status.TheVariants as status
-use Rattle.py_program.specs.Outcome.{Outside, Asked, raw_mode, closed_calls, RanCalls, RefusesOpened, HasLines, PrintsSome, RawOutcome, OpensPath}
+use Rattle.py_open.specs.Paths.{raw_mode, RefusesOpened}
+use Rattle.py_program.specs.Outcome.{Outside, Asked, closed_calls, RanCalls, HasLines, PrintsSome, RawOutcome, OpensPath}
 
 -- a path is a given one or another
 same_or_other : (test : Bool) (other path : List ℕ) → bytes_eq other path ≡ test → (other ≡ path) ⊎ (other ≢ path)

@@ -14,7 +14,8 @@ use Rattle.py_open.specs.Laws.{flat_left}
 use Rattle.py_open.proofs.Runs.{run_keeps_raw, run_in_step, opened_in_step}
 use Rattle.py_open.proofs.Resting.{run_rests}
 use Rattle.py_open.proofs.Ending.{step_passes, shown_where_told}
-use Rattle.py_program.specs.Outcome.{Asked, raw_mode, RanCalls, RawOutcome, OpensPath, PathHoldsFlat, CallsOutcome, after_done}
+use Rattle.py_open.specs.Paths.{raw_mode}
+use Rattle.py_program.specs.Outcome.{Asked, RanCalls, RawOutcome, OpensPath, PathHoldsFlat, CallsOutcome, after_done}
 use Rattle.py_program.proofs.Keeping.{opening_keeps}
 use Rattle.py_program.proofs.Printed.{rose_later}
 

@@ -4,9 +4,7 @@ use Rattle.py_flat.specs.declared.fault.IoFault.{IoFault}
 use Rattle.py_flat.specs.declared.fault.IoFault.TheVariants as fault
 use Rattle.py_raw.specs.RawStream.{Raw}
 use Rattle.py_source_sink.specs.Sink.{SinkView}
-use Rattle.py_raw.specs.Opener.{IsOpened}
 use Rattle.py_calls.specs.declared.reply.Reply.{Reply}
-use Rattle.py_mode.specs.Plan.{IsPlanned}
 use Rattle.py_open.specs.Session.{SessionView, raw_of}
 use Rattle.py_open.specs.Run.{RefusesOpening, RunsCalls}
 use Rattle.py_script.specs.ReplyLine.{reply_lines}
@@ -14,8 +12,8 @@ use Rattle.py_script.specs.Faults.{refused_line}
 use Rattle.py_program.specs.declared.status.Status.{Status}
 use Rattle.py_program.specs.declared.status.Status.TheVariants as status
 use Rattle.py_program.specs.Outside.{PrintOutcome}
-use Rattle.py_program.specs.Outcome.{Asked, raw_mode, closed_calls, RanCalls, RefusedRaw, RawOutcome}
-use Rattle.py_program.proofs.Planned.{refused_by}
+use Rattle.py_open.specs.Paths.{RefusesOrLacks}
+use Rattle.py_program.specs.Outcome.{Asked, closed_calls, RanCalls, RefusedRaw, RawOutcome}
 
 -- there was no memory to begin a run over a raw with
 pub lacks_memory : (raw : Raw) (asked : Asked) (sink : SinkView) → RawOutcome raw asked status.NoMemory raw sink sink
@@ -55,9 +53,7 @@ pub starved : (raw back : Raw) (asked : Asked) (refused : IoFault) (sink : SinkV
 starved raw back asked refused sink why is = inr (record { hands = inr (subst (λ (by : IoFault). RefusesOpening raw asked.plan by back) is why); sink = refl })
 
 -- a session that couldn't be opened over a raw had its refusal printed, or a front of it
-pub refused_printed : (raw back : Raw) (asked : Asked) (refused : IoFault) (old new : SinkView) (printed : Result (Unit {0}) Status) (ended : Status) → IsPlanned asked.plan → IsOpened (raw_mode asked.plan) raw → RefusesOpening raw asked.plan refused back → (refused ≡ fault.NoMemory → ⊥) → PrintOutcome old (refused_line refused) printed new → MatchResult printed (λ done. ended ≡ status.Refused) (λ stop. ended ≡ stop) → RawOutcome raw asked ended back old new
-refused_printed raw back asked refused old new printed ended may opened why not_memory prints ends =
-    elim (refused_by raw back asked.plan refused may opened why) [
-      | inl is ↦ absurd (not_memory is)
-      | inr by ↦ refusal_printed raw asked back (refused_line refused) old new printed ended (record { refused = refused; why = by; lines_are = refl }) prints ends
-    ]
+pub refused_printed : (raw back : Raw) (asked : Asked) (refused : IoFault) (old new : SinkView) (printed : Result (Unit {0}) Status) (ended : Status) → RefusesOrLacks raw asked.plan refused back → (refused ≡ fault.NoMemory → ⊥) → PrintOutcome old (refused_line refused) printed new → MatchResult printed (λ done. ended ≡ status.Refused) (λ stop. ended ≡ stop) → RawOutcome raw asked ended back old new
+refused_printed raw back asked refused old new printed ended (inl is) not_memory prints ends = absurd (not_memory is)
+refused_printed raw back asked refused old new printed ended (inr by) not_memory prints ends =
+    refusal_printed raw asked back (refused_line refused) old new printed ended (record { refused = refused; why = by; lines_are = refl }) prints ends

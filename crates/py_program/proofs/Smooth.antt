@@ -11,7 +11,8 @@ use Rattle.py_script.specs.CommandWords.{Command, Run, command_of}
 use Rattle.py_script.specs.Script.{script_calls}
 use Rattle.py_raw.specs.Opener.{opened_bytes}
 use Rattle.py_program.specs.Outside.{script_limit, IsMalformed}
-use Rattle.py_program.specs.Outcome.{Outside, raw_mode, closed_calls, Ends}
+use Rattle.py_open.specs.Paths.{raw_mode}
+use Rattle.py_program.specs.Outcome.{Outside, closed_calls, Ends}
 use Rattle.py_program.specs.Meaning.{NothingFails, IsRefusedPlan, MayNotMove, KeepsOthers, SettlesAtPath, TellsCalls, IsSmoothOutside, DoesAsTheModel}
 use Rattle.py_program.proofs.Ending.{others_kept}
 use Rattle.py_program.proofs.Exact.{prints_settled}

@@ -30,7 +30,8 @@ use Rattle.py_script.specs.Help.{help_text, version_text}
 use Rattle.py_script.specs.Script.{script_calls}
 use Rattle.py_script.specs.ReplyLine.{reply_lines}
 use Rattle.py_program.specs.Outside.{script_limit, IsMalformed, ReadsScript, Prints}
-use Rattle.py_program.specs.Outcome.{Outside, raw_mode, closed_calls, MovesRaw, PathHoldsFlat}
+use Rattle.py_open.specs.Paths.{raw_mode, MovesRaw}
+use Rattle.py_program.specs.Outcome.{Outside, closed_calls, PathHoldsFlat}
 
 -- the opener tells what each path holds
 abbrev pub TellsPaths : OpenerView → Type 0

@@ -1,5 +1,5 @@
 -- What the program did, by the status that it ends with.
-use Rattle.std.specs.Prelude.{◌≡◌, ◌≢◌, ℕ, ◌⊎◌, IsTrue, IsFalse, List, [], ◌∷◌, ◌++◌, Option, Some, None, IsSome, Result, Ok, Err, String}
+use Rattle.std.specs.Prelude.{◌≡◌, ◌≢◌, ℕ, ◌⊎◌, IsTrue, IsFalse, List, [], ◌∷◌, ◌++◌, Option, Some, None, Result, Ok, Err, String}
 use Rattle.std.specs.declared.alloc.Global.{Global}
 use Rattle.py_flat.specs.declared.fault.IoFault.TheVariants as fault
 use Rattle.py_flat.specs.declared.life.Life.TheVariants as life
@@ -8,16 +8,14 @@ use Rattle.py_raw.specs.RawStream.{Raw}
 use Rattle.py_source_sink.specs.Source.{SourceView, SourceKeeps}
 use Rattle.py_source_sink.specs.Sink.{SinkView, SinkKeeps}
 use Rattle.py_raw.specs.Opener.{OpenerView, OpenKeeps, Opens, OpenFaults, OpenLacksMemory, HoldsTheSame, DoneKeeps, PutsAway}
-use Rattle.py_raw.specs.RawMode.{raw_mode_text}
 use Rattle.py_calls.specs.declared.call.Call.{Call}
 use Rattle.py_calls.specs.declared.call.Call.TheVariants.{Close}
 use Rattle.py_calls.specs.declared.reply.Reply.{Reply}
 use Rattle.py_calls.specs.Calls.{said}
-use Rattle.py_mode.specs.Mode.{letter_of}
 use Rattle.py_open.specs.Session.{SessionView, Answers, raw_of, life_of}
-use Rattle.py_stream.specs.declared.access.Access.TheVariants as access
-use Rattle.py_open.specs.Opening.{RefusesSession, access_of}
+use Rattle.py_open.specs.Opening.{RefusesSession}
 use Rattle.py_open.specs.Run.{IsRun, RefusesOpening, RunsCalls}
+use Rattle.py_open.specs.Paths.{raw_mode, RefusesOpened}
 use Rattle.py_open.specs.Laws.{PassesAll, flat_left}
 use Rattle.py_script.specs.ReplyLine.{reply_lines}
 use Rattle.py_script.specs.Faults.{refused_line}
@@ -28,7 +26,7 @@ use Rattle.py_program.specs.declared.status.Status.TheVariants as status
 use Rattle.py_flat.specs.declared.fault.IoFault.{IoFault}
 use Rattle.py_mode.specs.declared.open_args.OpenArgs.{OpenArgs}
 use Rattle.py_mode.specs.declared.plan.OpenPlan.{OpenPlan}
-use Rattle.py_mode.specs.Plan.{built_in_plan, buffer_of}
+use Rattle.py_mode.specs.Plan.{built_in_plan}
 use Rattle.py_raw.specs.declared.opener.OpenError.{OpenError}
 use Rattle.py_raw.specs.declared.opener.OpenError.TheVariants as open_error
 use Rattle.py_program.specs.Status.{code_of}
@@ -54,10 +52,6 @@ pub record Asked : Type 0 where
   pub plan : OpenPlan
   pub calls : List Call
 
--- the mode by which the raw is opened
-abbrev pub raw_mode : OpenPlan → List ℕ
-raw_mode plan = raw_mode_text (letter_of plan.mode.file) plan.mode.plus
-
 -- the calls of the script, and the Close that the program adds
 abbrev pub closed_calls : List Call → List Call
 closed_calls calls = calls ++ Close ∷ []
@@ -69,16 +63,6 @@ pub record RanCalls (raw : Raw) (asked : Asked) (back : Raw) (lines : List ℕ) 
   pub run : RunsCalls raw asked.plan (closed_calls asked.calls) session replies
   pub raw_is : back ≡ raw_of session
   pub lines_are : lines ≡ reply_lines replies
-
--- a stream that is read and written through a buffer moves its raw
-abbrev pub MovesRaw : OpenPlan → Type 0
-MovesRaw plan = (access_of plan.mode ≡ access.Update) × IsSome (buffer_of plan.kind)
-
--- why no session is opened over a raw: it failed to say where it stands or ends, or to move there; or it can't seek, and is to be moved
-abbrev pub RefusesOpened : Raw → OpenPlan → IoFault → Raw → Type 0
-RefusesOpened raw plan fault.RawFault back = RefusesSession raw plan fault.RawFault back
-RefusesOpened raw plan fault.Unsupported back = MovesRaw plan × IsFalse raw.seekable × (back ≡ raw)
-RefusesOpened raw plan refused back = ⊥
 
 -- the session couldn't be opened; `lines` is the refusal's
 pub record RefusedRaw (raw : Raw) (asked : Asked) (back : Raw) (lines : List ℕ) : Type 0 where

@@ -7,7 +7,8 @@ ghost use Rattle.py_stream.specs.Opening.{StandsAtStart};
 ghost use Rattle.py_flat.specs.declared.fault.IoFault.TheVariants as fault;
 ghost use Rattle.py_mode.specs.Plan.{built_in_plan, IsPlanned};
 ghost use Rattle.py_program.specs.Outside.{texts};
-ghost use Rattle.py_program.specs.Outcome.{raw_mode, asked_by, asked_in, outside, RawOutcome, PlannedOutcome, LacksPlan, Outcome, Ends, after_done};
+ghost use Rattle.py_open.specs.Paths.{raw_mode};
+ghost use Rattle.py_program.specs.Outcome.{asked_by, asked_in, outside, RawOutcome, PlannedOutcome, LacksPlan, Outcome, Ends, after_done};
 ghost use Rattle.py_program.specs.Meaning.{Promises};
 
 use crate::laws::{a_smooth_run_prints_the_exact_replies, a_smooth_run_prints_what_settles};
@@ -17,7 +18,8 @@ use crate::status::Status;
 use py_flat::IoFault;
 use py_open::{
     Call, OpenArgs, OpenPlan, OpenRefused, Run, a_smooth_run_is_complete,
-    an_ended_session_calls_no_raw, plan_open, run_planned, what_is_passed_on_is_in_the_raw,
+    an_ended_session_calls_no_raw, an_opened_raw_suits_its_plan, plan_open, run_planned,
+    what_is_passed_on_is_in_the_raw,
 };
 use py_raw::{OpenError, Opener, RawStream, Sink, Source};
 use py_registry::{CodecsRegistry, NoHandler, NoSearch};
@@ -180,6 +182,7 @@ fn run_raw<R: RawStream, K: Sink>(
     ensures outcome { RawOutcome (R.shows raw) (asked_by plan calls.items) result.0 (R.shows result.1) (K.shows out.old) (K.shows out.new) }
     ensures exact { result.0 ≢ Status.SinkFailed → NoSinkFault (K.shows out.old) (K.shows out.new) }
 {
+    an_opened_raw_suits_its_plan();
     let mut calls = calls;
     if calls.push(Call::Close).is_err() {
         return (Status::NoMemory, raw);

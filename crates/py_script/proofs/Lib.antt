@@ -7,4 +7,5 @@ mod FaultLemmas
 mod ReplyLemmas
 mod OptionLemmas
 mod OptionLaws
+mod SettingLemmas
 mod WordLaws

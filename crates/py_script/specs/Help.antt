@@ -15,18 +15,18 @@ are_within width (line ∷ lines) = nat_le (length line) width && are_within wid
 abbrev pub words_help : List (List ℕ)
 words_help =
     codes "Opens a file, makes the calls of a script on it, and prints each reply." ∷
-    [] ∷
     codes "  run PATH MODE [OPTION ..]   takes the script from standard input" ∷
     codes "  --help, --version           prints this text, or the program's version" ∷
     [] ∷
-    codes "MODE is as in Python's open. Each OPTION is given at most once, in any order:" ∷
-    codes "  buffering=I    size of the buffer in bytes; 0: none; 1, and I below 0: 8192" ∷
+    codes "MODE is as in Python's open, of a text without b; but a+ and ab+ aren't opened." ∷
+    codes "Each OPTION is given at most once, in any order:" ∷
+    codes "  buffering=I    buffer in bytes; 0: none, not of a text; 1, and I below 0: 8192" ∷
     codes "  encoding=NAME  utf-8 (default), latin-1, ascii, utf-16-le or utf-16-be" ∷
-    codes "  errors=NAME    strict (default), ignore, replace or another of Python's" ∷
+    codes "  errors=NAME    strict (default), ignore, replace, backslashreplace or" ∷
+    codes "                 surrogateescape; of a text only written also xmlcharrefreplace" ∷
     codes "  newline=HEX    what ends a line, in hex of its UTF-8: 0a is LF (default: any" ∷
-    codes "                 of CR LF, CR and LF, each read as LF); none: empty text" ∷
+    codes "                 of CR LF, CR and LF, each read as LF); no HEX: empty text" ∷
     codes "  chunk=N        bytes that a text asks its buffer for at once (default 8192)" ∷
-    codes "MODE is any but ab+ and a+. A text (no b) has to have a buffer." ∷
     []
 
 -- the script and its replies
@@ -38,6 +38,8 @@ script_help =
     codes "  readlines [N], read1 [N], peek, readinto N, readinto1 N     read as in Python" ∷
     codes "  write HEX, writelines [HEX ..], writetext HEX   writes bytes, lines, UTF-8" ∷
     codes "  seek I [WHENCE]    I from the start (0, or none), the place (1), the end (2)" ∷
+    codes "  reconfigure [encoding=NAME] [errors=NAME] [newline=HEX] [line=B] [through=B]" ∷
+    codes "                     gives a text these; newline=none: the default; B is 0 or 1" ∷
     codes "  truncate [N], chunksize [N], tell, flush, close, detach, readable, writable," ∷
     codes "  seekable, closed, encoding, errors" ∷
     codes "N and I are decimal, I also after a -; HEX has two digits a byte, - for none." ∷
@@ -48,9 +50,8 @@ script_help =
     codes "  count N, place N, true, false, ok     how many, where, yes, no, done" ∷
     codes "  notready          the file was not ready: make the call again" ∷
     codes "  detached HEX N    handed back: HEX may be unwritten, of place N (-: unknown)" ∷
-    codes "  err NAME ..       refused: Closed, Detached or Failed by an earlier call," ∷
-    codes "                    RawFault where the file failed, WouldBlock N where it was" ∷
-    codes "                    not ready and took N bytes; other names say why" ∷
+    codes "  err NAME ..       refused: Closed, Detached, Failed before; RawFault: the file" ∷
+    codes "                    failed; WouldBlock N: not ready past N bytes; others say why" ∷
     []
 
 -- the statuses
@@ -60,8 +61,7 @@ status_help =
     codes "  0  every reply was printed        5  the script could not be read" ∷
     codes "  2  the words are malformed        6  a line could not be printed" ∷
     codes "  3  the script is malformed        7  there was no memory left" ∷
-    codes "  4  refused NAME was printed, of   8  the path could not be opened, or the" ∷
-    codes "     the mode, option or file          file not be put away again" ∷
+    codes "  4  refused NAME was printed       8  the path could not be opened or put away" ∷
     []
 
 -- the lines that `--help` prints

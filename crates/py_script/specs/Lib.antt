@@ -1,4 +1,5 @@
 pub mod Words
+pub mod Settings
 pub mod LineCall
 pub mod Script
 pub mod Faults

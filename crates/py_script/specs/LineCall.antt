@@ -3,8 +3,9 @@ use Rattle.std.specs.Prelude.{ℕ, ℤ, pos, List, [], ◌∷◌, Option, Some, 
 use Rattle.std.specs.Option.{option_and_then}
 use Rattle.std.specs.Str.{bytes_eq}
 use Rattle.py_calls.specs.declared.call.Call.{Call}
-use Rattle.py_calls.specs.declared.call.Call.TheVariants.{Read, Read1, ReadLine, ReadLines, Peek, ReadInto, ReadInto1, Write, WriteLines, WriteText, Seek, Tell, Truncate, Flush, Close, Detach, ChunkSize, SetChunkSize, Readable, Writable, Seekable, Closed, Encoding, Errors}
+use Rattle.py_calls.specs.declared.call.Call.TheVariants.{Read, Read1, ReadLine, ReadLines, Peek, ReadInto, ReadInto1, Write, WriteLines, WriteText, Seek, Tell, Truncate, Flush, Close, Detach, ChunkSize, SetChunkSize, Reconfigure, Readable, Writable, Seekable, Closed, Encoding, Errors}
 use Rattle.py_script.specs.Words.{decimal_value, integer_value, whence_value, word_bytes, word_text, words_bytes}
+use Rattle.py_script.specs.Settings.{changes_of_words}
 
 -- the call of a word that stands alone: a reading or a truncation without a size, and each call that takes nothing
 abbrev pub plain_call : List ℕ → Option Call
@@ -72,6 +73,14 @@ writetext_call _ = None
 abbrev pub writelines_call : List (List ℕ) → Option Call
 writelines_call lines = option_map WriteLines (words_bytes lines)
 
+-- the call of what stands after `reconfigure`: settings, each at most once and in their order
+abbrev pub reconfigure_call : List (List ℕ) → Option Call
+reconfigure_call settings = option_map Reconfigure (changes_of_words settings)
+
+-- the call of another word: of `reconfigure`, or of one with at most a size after it
+abbrev pub other_call : List ℕ → List (List ℕ) → Option Call
+other_call name words = if bytes_eq name (codes "reconfigure") then reconfigure_call words else reading_call name words
+
 -- the call of a line's words; None where they are malformed
 abbrev pub words_call : List (List ℕ) → Option Call
 words_call [] = None
@@ -80,4 +89,4 @@ words_call (name ∷ words) =
     else if bytes_eq name (codes "write") then write_call words
     else if bytes_eq name (codes "writetext") then writetext_call words
     else if bytes_eq name (codes "writelines") then writelines_call words
-    else reading_call name words
+    else other_call name words

@@ -5,9 +5,11 @@ ghost use Rattle.py_script.specs.Faults.{refused_line};
 ghost use Rattle.py_script.specs.ReplyLine.{reply_line, reply_lines};
 ghost use Rattle.py_script.specs.Options.{arguments_of};
 ghost use Rattle.py_script.specs.CommandWords.{Run, Help, Version, command_of};
+ghost use Rattle.py_text.specs.Settings.{no_changes};
 
 use py_calls::{Call, Reply};
 use py_flat::{IoFault, ModeError, ParseModeError};
+use py_plain::{Encoding, Handler, Newlines};
 
 /// Worked examples of well-formed scripts, computed from the definition.
 #[tactic(auto, unfolding(crate::specs::Words::is_digit))]
@@ -91,6 +93,37 @@ pub fn examples_of_texts()
     ensures no_hex { script_calls (codes "writetext a") ≡ None }
 {}
 
+/// Worked examples of settings of texts, computed from the definition.
+pub fn examples_of_settings()
+    ensures nothing { script_calls (codes "reconfigure") ≡ Some (Call.Reconfigure no_changes ∷ []) }
+    ensures all { script_calls (codes "reconfigure encoding=UTF-16LE errors=xmlcharrefreplace newline=0D0a line=1 through=0")
+        ≡ Some (Call.Reconfigure (record { encoding = Some Encoding.Utf16Le; errors = Some Handler.XmlCharRefReplace; newline = Some Newlines.Crlf; line_buffering = Some true; write_through = Some false }) ∷ []) }
+    ensures some { script_calls (codes "reconfigure encoding=latin1 through=1")
+        ≡ Some (Call.Reconfigure (record no_changes { encoding = Some Encoding.Latin1; write_through = Some true }) ∷ []) }
+    ensures no_argument { script_calls (codes "reconfigure newline=none") ≡ Some (Call.Reconfigure (record no_changes { newline = Some Newlines.Universal }) ∷ []) }
+    ensures empty_argument { script_calls (codes "reconfigure newline=") ≡ Some (Call.Reconfigure (record no_changes { newline = Some Newlines.Passthrough }) ∷ []) }
+    ensures empty_hex { script_calls (codes "reconfigure newline=-") ≡ Some (Call.Reconfigure (record no_changes { newline = Some Newlines.Passthrough }) ∷ []) }
+    ensures line_feed { script_calls (codes "reconfigure newline=0a") ≡ Some (Call.Reconfigure (record no_changes { newline = Some Newlines.Lf }) ∷ []) }
+    ensures handler_of_no_stream { script_calls (codes "reconfigure errors=surrogatepass") ≡ Some (Call.Reconfigure (record no_changes { errors = Some Handler.SurrogatePass }) ∷ []) }
+{}
+
+/// Worked examples of malformed settings, computed from the definition.
+pub fn examples_of_no_settings()
+    ensures other_order { script_calls (codes "reconfigure errors=strict encoding=utf-8") ≡ None }
+    ensures twice { script_calls (codes "reconfigure line=1 line=1") ≡ None }
+    ensures unknown_encoding { script_calls (codes "reconfigure encoding=locale") ≡ None }
+    ensures no_encoding { script_calls (codes "reconfigure encoding=") ≡ None }
+    ensures unknown_handler { script_calls (codes "reconfigure errors=Strict") ≡ None }
+    ensures other_newline { script_calls (codes "reconfigure newline=0a0d") ≡ None }
+    ensures odd_hex { script_calls (codes "reconfigure newline=0") ≡ None }
+    ensures no_switch { script_calls (codes "reconfigure line=01") ≡ None }
+    ensures unknown_setting { script_calls (codes "reconfigure chunk=1") ≡ None }
+    ensures no_value { script_calls (codes "reconfigure line") ≡ None }
+    ensures two_values { script_calls (codes "reconfigure through=1=1") ≡ None }
+    ensures two_spaces { script_calls (codes "reconfigure  line=1") ≡ None }
+    ensures not_utf8 { script_calls (codes "reconfigure errors=" ++ 255 ∷ []) ≡ None }
+{}
+
 /// Worked examples of malformed scripts, computed from the definition.
 #[tactic(auto, unfolding(crate::specs::Words::is_digit))]
 pub fn examples_of_malformed_lines()
@@ -107,7 +140,6 @@ pub fn examples_of_malformed_lines()
     ensures size_of_close { script_calls (codes "close 1") ≡ None }
     ensures not_utf8 { script_calls (codes "read " ++ 255 ∷ []) ≡ None }
     ensures cookie { script_calls (codes "seektext 00") ≡ None }
-    ensures settings { script_calls (codes "reconfigure") ≡ None }
     ensures name_to_set { script_calls (codes "encoding utf-8") ≡ None }
     ensures chunk_below_zero { script_calls (codes "chunksize -1") ≡ None }
 {}

@@ -41,7 +41,7 @@ pub(crate) fn hex_text(alloc: Global, digits: &str) -> Result<Option<Chars>, All
 }
 
 /// The text of some bytes, or `None` where they are no UTF-8.
-fn text_of(bytes: Vec<u8>) -> Option<Chars>
+pub(crate) fn text_of(bytes: Vec<u8>) -> Option<Chars>
     ensures { result ≡ text_of bytes.items }
 {
     match String::from_utf8(bytes) {

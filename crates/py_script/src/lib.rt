@@ -16,17 +16,20 @@ mod hex_words;
 mod line_call;
 mod option_laws;
 mod options;
+mod pieces;
 mod reply_law;
 mod reply_line;
 mod script;
+mod settings;
 mod word_laws;
 
 pub use command::{Command, parse_words};
 pub use decimal::parse_decimal;
 pub use examples::{
     examples_of_commands, examples_of_malformed_lines, examples_of_moves, examples_of_no_options,
-    examples_of_options, examples_of_plain_lines, examples_of_refusals, examples_of_replies,
-    examples_of_scripts, examples_of_sized_lines, examples_of_texts, examples_of_writes,
+    examples_of_no_settings, examples_of_options, examples_of_plain_lines, examples_of_refusals,
+    examples_of_replies, examples_of_scripts, examples_of_settings, examples_of_sized_lines,
+    examples_of_texts, examples_of_writes,
 };
 pub use fault_line::{fault_name, push_refused_line};
 pub use help::{help_text, version_text};

@@ -1,8 +1,9 @@
 ghost use Rattle.std.specs.Prelude.{◌≡◌, map, IfOk};
-ghost use Rattle.py_script.specs.LineCall.{plain_call, sized_call, reading_call, seek_call, write_call, writetext_call, writelines_call, words_call};
+ghost use Rattle.py_script.specs.LineCall.{plain_call, sized_call, reading_call, seek_call, write_call, writetext_call, writelines_call, reconfigure_call, other_call, words_call};
 
 use crate::decimal::{parse_decimal, parse_integer, parse_whence};
 use crate::hex_words::{word_bytes, word_text, words_bytes};
+use crate::settings::parse_settings;
 use py_calls::Call;
 use std::alloc::{AllocError, Global};
 
@@ -21,6 +22,17 @@ pub(crate) fn words_call(alloc: Global, words: &[&[u8]]) -> Result<Option<Call>,
         writetext_call(alloc, words)
     } else if *name == "writelines".as_bytes() {
         writelines_call(alloc, words)
+    } else {
+        other_call(alloc, name, words)
+    }
+}
+
+/// The call of another word: of `reconfigure`, or of one with at most a size after it.
+fn other_call(alloc: Global, name: &[u8], words: &[&[u8]]) -> Result<Option<Call>, AllocError>
+    ensures { IfOk result (λ call. call ≡ other_call name.now (map (λ word. word.now) words.now)) }
+{
+    if name == "reconfigure".as_bytes() {
+        reconfigure_call(alloc, words)
     } else {
         Ok(reading_call(name, words))
     }
@@ -62,6 +74,13 @@ fn writelines_call(alloc: Global, words: &[&[u8]]) -> Result<Option<Call>, Alloc
     ensures { IfOk result (λ call. call ≡ writelines_call (map (λ word. word.now) words.now)) }
 {
     Ok(words_bytes(alloc, words)?.map(Call::WriteLines))
+}
+
+/// The call of what stands after `reconfigure`: settings, each at most once and in their order.
+fn reconfigure_call(alloc: Global, words: &[&[u8]]) -> Result<Option<Call>, AllocError>
+    ensures { IfOk result (λ call. call ≡ reconfigure_call (map (λ word. word.now) words.now)) }
+{
+    Ok(parse_settings(alloc, words)?.map(Call::Reconfigure))
 }
 
 /// The call of a word with at most a size after it.

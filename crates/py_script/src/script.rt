@@ -1,9 +1,9 @@
-ghost use Rattle.std.specs.Prelude.{◌≡◌, ◌==◌, map, IfOk};
-ghost use Rattle.std.specs.List.{slice_split};
+ghost use Rattle.std.specs.Prelude.{◌≡◌, map, IfOk};
 ghost use Rattle.std.specs.Option.{option_map};
 ghost use Rattle.py_script.specs.Script.{line_call, is_skipped, lines_calls, script_calls};
 
 use crate::line_call::words_call;
+use crate::pieces::pieces;
 use py_calls::Call;
 use std::alloc::{AllocError, Global};
 
@@ -40,9 +40,13 @@ fn parse_lines(alloc: Global, lines: &[&[u8]]) -> Result<Option<Vec<Call>>, Allo
 /// A line is one of these, with one space between its words:
 /// - `read`, `read1`, `readline`, `readlines` or `truncate`, alone or with a size;
 /// - `readinto` or `readinto1` with a size;
-/// - `write` with bytes, `writelines` with the bytes of each line, of none too;
+/// - `write` with bytes, `writelines` with the bytes of each line, of none too, `writetext` with the UTF-8 of a text;
 /// - `seek` with an offset, or with an offset and a whence, which is 0 where there is none;
-/// - `peek`, `tell`, `flush`, `close`, `detach`, `readable`, `writable`, `seekable` or `closed`, alone.
+/// - `chunksize`, alone or with a size;
+/// - `reconfigure` with settings, of none too, each at most once and in this order: `encoding=` and `errors=` with a name that is
+///   built in, `newline=` with `none` or the UTF-8 of a newline argument, which of the empty one may be nothing at all, `line=` and
+///   `through=` with 0 or 1;
+/// - `peek`, `tell`, `flush`, `close`, `detach`, `readable`, `writable`, `seekable`, `closed`, `encoding` or `errors`, alone.
 ///
 /// A size is one or more decimal digits, up to 18446744073709551615. An offset is the same after at most one `-`, from
 /// -9223372036854775808 to 9223372036854775807, and so is a whence, from -2147483648 to 2147483647: which of them mean
@@ -53,13 +57,6 @@ pub fn parse_line(alloc: Global, line: &[u8]) -> Result<Option<Call>, AllocError
 {
     let words = pieces(alloc, line, b' ')?;
     words_call(alloc, &words)
-}
-
-/// The pieces of some bytes that are cut at each byte of one kind; `Err` when out of memory.
-fn pieces(alloc: Global, bytes: &[u8], at: u8) -> Result<Vec<&[u8]>, AllocError>
-    ensures { IfOk result (λ pieces. map (λ piece. piece.now) pieces.items ≡ slice_split (λ byte. byte == at) bytes.now) }
-{
-    bytes.split(|byte| *byte == at).collect(alloc)
 }
 
 /// Whether a line is skipped: it is empty, or begins with `#`.

@@ -20,6 +20,9 @@ returns-in-WriteText g c = rw c.in-WriteText.is (rw c.count_reply.ensures (rw (s
 pub returns-in-SetChunkSize : goal.returns-in-SetChunkSize
 returns-in-SetChunkSize g c = rw c.in-SetChunkSize.is (rw c.done_reply.ensures c.set_chunksize.ensures)
 
+pub returns-in-Reconfigure : goal.returns-in-Reconfigure
+returns-in-Reconfigure g c = rw c.in-Reconfigure.is (rw c.done_reply-in-Reconfigure.ensures c.reconfigure.ensures)
+
 pub returns-in-Flush : goal.returns-in-Flush
 returns-in-Flush g c = rw c.in-Flush.is (rw c.done_reply-in-Flush.ensures c.flush.ensures)
 
@@ -43,4 +46,4 @@ returns-in-Errors g c = rw c.in-Errors.is (record {
 pub returns-in_default : goal.returns-in_default
 returns-in_default g c =
     let d = c.in_default in
-    rw (other_kind c.args.call.now d.not-Read d.not-ReadLine d.not-WriteText d.not-SetChunkSize d.not-Flush d.not-Close d.not-ChunkSize d.not-Readable d.not-Writable d.not-Seekable d.not-Closed d.not-Encoding d.not-Errors) c.refuse.ensures
+    rw (other_kind c.args.call.now d.not-Read d.not-ReadLine d.not-WriteText d.not-SetChunkSize d.not-Flush d.not-Close d.not-ChunkSize d.not-Readable d.not-Writable d.not-Seekable d.not-Closed d.not-Encoding d.not-Errors d.not-Reconfigure) c.refuse.ensures

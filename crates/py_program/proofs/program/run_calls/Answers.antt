@@ -4,7 +4,8 @@ use Rattle.py_flat.specs.declared.fault.IoFault.TheVariants as fault
 use Rattle.py_raw.specs.RawStream.{Raw}
 use Rattle.py_raw.specs.Opener.{OpenerView, Opens, OpenFaults, OpenLacksMemory, OpenOutcome}
 use Rattle.py_raw.specs.declared.opener.OpenError.{OpenError}
-use Rattle.py_program.specs.Outcome.{raw_mode, asked_by}
+use Rattle.py_open.specs.Paths.{raw_mode}
+use Rattle.py_program.specs.Outcome.{asked_by}
 use Rattle.py_program.proofs.Planned.{plan_refused}
 use Rattle.py_program.proofs.Opened.{ended_outcome}
 use Rattle.py_program.proofs.program.run_calls.Goals as goal

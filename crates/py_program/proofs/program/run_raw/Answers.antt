@@ -37,4 +37,4 @@ returns-clause-outcome g c =
     let back : Raw = g.R.RawStream.shows c.in-Err.field-0.raw in
     let refused : IoFault = c.in-Err.field-0.fault in
     refused_printed raw back (asked_by c.args.plan c.args.calls.items) refused (g.K.Sink.shows c.args.out.now) (g.K.Sink.shows c.print_refused.new.out) c.print_refused.result c.status_of-status-in_default.result
-    c.requires.planned c.requires.opened c.in-Err.ensures c.in_default.not-NoMemory c.print_refused.ensures.outcome c.status_of-status-in_default.ensures
+    (c.an_opened_raw_suits_its_plan.ensures raw back c.args.plan refused c.requires.planned c.requires.opened c.in-Err.ensures) c.in_default.not-NoMemory c.print_refused.ensures.outcome c.status_of-status-in_default.ensures

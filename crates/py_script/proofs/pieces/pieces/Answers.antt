@@ -1,7 +1,7 @@
 use Rattle.std.proofs.Common.{eqb, rules}
 use Rattle.std.proofs.lemmas.Iterator.Consumers.{map_from_collect}
 use Rattle.std.proofs.lemmas.Iterator.Splits.{YieldsList-from_slice_split}
-use Rattle.py_script.proofs.script.pieces.Goals as goal
+use Rattle.py_script.proofs.pieces.pieces.Goals as goal
 
 pub returns : goal.returns
 returns c = map_from_collect _ c.collect.ensures.ran (YieldsList-from_slice_split _ (λ byte. eqb byte c.args.at) c.args.bytes.now c.split.ensures.rest c.split.ensures.done c.split.ensures.closure (λ x b q called. search rules))

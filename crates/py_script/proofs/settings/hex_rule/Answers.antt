@@ -1,0 +1,10 @@
+use Rattle.std.proofs.Common.{List, ℕ, Option, Some, sym, ap, ◌∙◌}
+use Rattle.py_plain.specs.NewlineArgument.{rule_of}
+use Rattle.py_mode.proofs.Planning.{rule_spelled}
+use Rattle.py_script.specs.Settings.{text_rule}
+use Rattle.py_script.proofs.settings.hex_rule.Goals as goal
+
+pub returns-in-Some : goal.returns-in-Some
+returns-in-Some c =
+    c.from_text.ensures.rule
+    ∙ (rule_spelled c.as_str.result.now c.as_str.utf8 ∙ (ap (λ (text : List ℕ). rule_of (Some text)) c.as_str.ensures ∙ ap (λ (argument : Option (List ℕ)). text_rule argument) (sym c.in-Some.is ∙ c.in_ok-text.ensures)))
