@@ -20,6 +20,8 @@ mod files;
 #[cfg(test)]
 mod layers;
 #[cfg(test)]
+mod paths;
+#[cfg(test)]
 mod queue;
 #[cfg(test)]
 mod refusals;
