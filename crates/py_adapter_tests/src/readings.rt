@@ -39,50 +39,74 @@ fn read_all<R: RawStream>(
     raw.readall(out)
 }
 
-#[test]
-fn a_single_reading_gives_what_one_transfer_does(rt: HostRuntime) -> Result<(), Fail> {
-    let alloc = rt.alloc();
-    let table: [(usize, &[Cut], &[u64], Result<Option<&[u8]>, RawError>, u64); 6] = [
-        (9, &[], &[], Ok(Some(b"abc")), 3),
-        (2, &[], &[], Ok(Some(b"ab")), 2),
-        (0, &[], &[], Ok(Some(b"")), 0),
-        (9, &[Cut::Take(1)], &[], Ok(Some(b"a")), 1),
-        (9, &[Cut::Wait], &[], Ok(None), 0),
-        (9, &[], &[0], Err(RawError::Fault), 0),
-    ];
-    for (n, plan, faults, answer, stands) in table {
-        let mut raw = raw_over(alloc, b"abc", plan, faults)?;
-        match read_once(&rt, &mut raw, alloc, n) {
-            Ok(Some(bytes)) => assert_eq!(rt; Ok(Some(bytes.as_slice())), answer, "at {n}"),
-            Ok(None) => assert!(rt; answer == Ok(None), "at {n}"),
-            Err(error) => assert!(rt; answer == Err(error), "at {n}"),
-        }
-        assert!(rt; raw.place_of() == stands, "at {n}");
-    }
-    Ok(())
-}
+/// A transfer of one byte.
+const ONE: Cut = Cut::Take(1);
+
+/// How much is asked for, the plan and the faults of a stream over `abc`, what one reading answers, and where the stream stands then.
+const SINGLE: [(usize, &[Cut], &[u64], Result<Option<&[u8]>, RawError>, u64); 6] = [
+    (9, &[], &[], Ok(Some(b"abc")), 3),
+    (2, &[], &[], Ok(Some(b"ab")), 2),
+    (0, &[], &[], Ok(Some(b"")), 0),
+    (9, &[ONE], &[], Ok(Some(b"a")), 1),
+    (9, &[Cut::Wait], &[], Ok(None), 0),
+    (9, &[], &[0], Err(RawError::Fault), 0),
+];
 
 #[test]
-fn a_reading_up_to_the_end_keeps_what_came_before_a_fault(rt: HostRuntime) -> Result<(), Fail> {
+fn a_single_reading_gives_what_one_transfer_does(rt: HostRuntime) {
     let alloc = rt.alloc();
-    let one = Cut::Take(1);
-    let table: [(&[Cut], &[u64], Result<Option<usize>, RawError>, &[u8]); 7] = [
-        (&[], &[], Ok(Some(5)), b".abcde"),
-        (&[one, one, one, one, one], &[], Ok(Some(5)), b".abcde"),
-        (&[one, one, Cut::Wait], &[], Ok(Some(2)), b".ab"),
-        (&[one, Cut::Wait, one], &[], Ok(Some(1)), b".a"),
-        (&[Cut::Wait], &[], Ok(None), b"."),
-        (&[one, one], &[2], Err(RawError::Fault), b".ab"),
-        (&[Cut::Take(2), one], &[2], Err(RawError::Fault), b".abc"),
-    ];
-    for (plan, faults, answer, held) in table {
-        let mut raw = raw_over(alloc, b"abcde", plan, faults)?;
-        let mut out = b".".to_vec(alloc)?;
-        assert!(rt; read_all(&rt, &mut raw, &mut out) == answer);
-        assert!(rt; out.as_slice() == held);
+    for (n, plan, faults, answer, stands) in SINGLE {
+        let mut raw = raw_over(alloc, b"abc", plan, faults).expect(&rt, "memory");
+        let agrees = match read_once(&rt, &mut raw, alloc, n) {
+            Ok(Some(bytes)) => answer == Ok(Some(bytes.as_slice())),
+            Ok(None) => answer == Ok(None),
+            Err(error) => answer == Err(error),
+        };
+        assert!(rt; agrees, "at {n}");
+        assert!(rt; raw.place_of() == stands, "at {n}");
     }
-    Ok(())
 }
+
+/// Reads up to the end, and compares the answer and all that is held then.
+fn assert_reads<R: RawStream>(
+    rt: &impl Abort,
+    raw: &mut R,
+    out: &mut Vec<u8>,
+    answer: Result<Option<usize>, RawError>,
+    held: &[u8],
+) {
+    assert!(rt; read_all(rt, raw, out) == answer);
+    assert!(rt; out.as_slice() == held);
+}
+
+/// The plan and the faults of a stream over `abcde`, what a reading of all answers, and what is held then behind a point.
+const UP_TO_THE_END: [(&[Cut], &[u64], Result<Option<usize>, RawError>, &[u8]); 7] = [
+    (&[], &[], Ok(Some(5)), b".abcde"),
+    (&[ONE, ONE, ONE, ONE, ONE], &[], Ok(Some(5)), b".abcde"),
+    (&[ONE, ONE, Cut::Wait], &[], Ok(Some(2)), b".ab"),
+    (&[ONE, Cut::Wait, ONE], &[], Ok(Some(1)), b".a"),
+    (&[Cut::Wait], &[], Ok(None), b"."),
+    (&[ONE, ONE], &[2], Err(RawError::Fault), b".ab"),
+    (&[Cut::Take(2), ONE], &[2], Err(RawError::Fault), b".abc"),
+];
+
+#[test]
+fn a_reading_up_to_the_end_keeps_what_came_before_a_fault(rt: HostRuntime) {
+    let alloc = rt.alloc();
+    for (plan, faults, answer, held) in UP_TO_THE_END {
+        let mut raw = raw_over(alloc, b"abcde", plan, faults).expect(&rt, "memory");
+        let mut out = b".".to_vec(alloc).expect(&rt, "memory");
+        assert_reads(&rt, &mut raw, &mut out, answer, held);
+    }
+}
+
+/// What readings of all answer one after the other, and what is held after each.
+const GOES_ON: [(Result<Option<usize>, RawError>, &[u8]); 4] = [
+    (Ok(Some(2)), b"ab"),
+    (Ok(None), b"ab"),
+    (Ok(Some(1)), b"abc"),
+    (Ok(Some(0)), b"abc"),
+];
 
 #[test]
 fn a_reading_up_to_the_end_goes_on_where_the_stream_asked_to_wait(
@@ -91,15 +115,8 @@ fn a_reading_up_to_the_end_goes_on_where_the_stream_asked_to_wait(
     let alloc = rt.alloc();
     let mut raw = raw_over(alloc, b"abc", &[Cut::Take(2), Cut::Wait, Cut::Wait], &[])?;
     let mut out = Vec::new(alloc);
-    let table: [(Result<Option<usize>, RawError>, &[u8]); 4] = [
-        (Ok(Some(2)), b"ab"),
-        (Ok(None), b"ab"),
-        (Ok(Some(1)), b"abc"),
-        (Ok(Some(0)), b"abc"),
-    ];
-    for (answer, held) in table {
-        assert!(rt; read_all(&rt, &mut raw, &mut out) == answer);
-        assert!(rt; out.as_slice() == held);
+    for (answer, held) in GOES_ON {
+        assert_reads(&rt, &mut raw, &mut out, answer, held);
     }
     Ok(())
 }
