@@ -4,7 +4,8 @@ use Rattle.std.specs.Char.{encode_utf8}
 use Rattle.std.specs.List.{list_any}
 use Rattle.std.specs.Str.{chars}
 use Rattle.std.proofs.lemmas.Bool.{eqb-true}
-use Rattle.std.proofs.lemmas.List.{length-append, take-append-le, take_all}
+use Rattle.std.proofs.lemmas.List.{length-append, take-append-le, take_all, nil_from_length}
+use Rattle.std.proofs.lemmas.Str.{chars-nil}
 use Rattle.py_flat.specs.Lines.{lf, cr}
 use Rattle.py_plain.specs.declared.encoding.Encoding.{Encoding}
 use Rattle.py_plain.specs.declared.encoding.Encoding.TheVariants.{Utf8, Latin1, Ascii, Utf16Le, Utf16Be}
@@ -143,6 +144,14 @@ IsDone coder newline before out text left = (done : List ℕ) × (out ≡ before
 
 pub done-none : (coder : Coder) (newline : Newlines) (before text : List ℕ) → IsDone coder newline before before text text
 done-none coder newline before text = ([], sym (append-nil before), refl)
+
+-- nothing is left, and nothing is written of it
+pub nothing-written : (coder : Coder) (newline : Newlines) (left : List ℕ) → len left ≡ 0 → each_written coder newline (chars left) ≡ []
+nothing-written coder newline left empty = ap (λ (t : List ℕ). each_written coder newline (chars t)) (nil_from_length left empty) ∙ ap (each_written coder newline) chars-nil
+
+pub done-nothing : (coder : Coder) (newline : Newlines) (before out text left : List ℕ) → IsDone coder newline before out text left → each_written coder newline left ≡ [] → out ≡ before ++ each_written coder newline text
+done-nothing coder newline before out text left done none =
+    done.1 ∙ ap (λ (t : List ℕ). before ++ t) (sym (append-nil done.0) ∙ (ap (λ (t : List ℕ). done.0 ++ t) (sym none) ∙ done.2))
 
 pub done-last : (coder : Coder) (newline : Newlines) (before out after text left run : List ℕ) (ended : Bool) (behind : List ℕ) → IsDone coder newline before out text left → IsCutAtLf left run ended behind → ended ≡ false → after ≡ out ++ each_encoded coder run → after ≡ before ++ each_written coder newline text
 done-last coder newline before out after text left run ended behind done cut is pushed =

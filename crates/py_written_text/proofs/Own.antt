@@ -32,7 +32,7 @@ pub ascii-stays : (handler : Handler) (text : List ℕ) → IsAscii text → eac
 ascii-stays handler text ascii = own-each handler Ascii (chars text) text (own_in_ascii text ascii)
 
 -- a test that answered yes
-match-true : (tested : Bool) (Yes No : Type 0) → MatchBool tested Yes No → tested ≡ true → Yes
+pub match-true : (tested : Bool) (Yes No : Type 0) → MatchBool tested Yes No → tested ≡ true → Yes
 match-true true Yes No cases is = cases
 match-true false Yes No cases is = absurd (cc)
 

@@ -1,5 +1,5 @@
 -- What is refused of a text, by what the codecs say of it.
-use Rattle.std.proofs.Common.{◌≡◌, ◌⊎◌, inl, inr, ℕ, true, List, length as len, Some, None, Ok, Err, refl, sym, ap}
+use Rattle.std.proofs.Common.{◌≡◌, ◌⊎◌, inl, inr, ℕ, true, List, length as len, Option, Some, None, Ok, Err, MatchOption, refl, sym, ap}
 use Rattle.py_flat.specs.declared.fault.IoFault.{IoFault}
 use Rattle.py_flat.specs.declared.fault.IoFault.TheVariants.{UnicodeEncodeError, NoMemory}
 use Rattle.py_plain.specs.declared.encoding.Encoding.{Encoding}
@@ -43,6 +43,11 @@ unrefused-whole meaning XmlCharRefReplace encoding text never = because-whole Xm
 unrefused-whole meaning BackslashReplace encoding text never = because-whole BackslashReplace encoding text (inl refl)
 unrefused-whole meaning SurrogatePass encoding text never = strict-whole encoding text (λ why is. never why refl is)
 unrefused-whole meaning SurrogateEscape encoding text never = strict-whole encoding text (λ why is. never why refl is)
+
+-- what is told of a text before memory is taken for its bytes: it is whole, or refused for its first run
+pub refused-as : {H : Type 0} (meaning : H → EncodeMeaning) (handler : Handler) (encoding : Encoding) (text : List ℕ) (told : Option IoFault) → MatchOption told ((why : IoFault) → refuses_runs {H = H} (Builtin handler) ≡ true → encoding_by meaning (Builtin handler) encoding text ≡ Err why → ⊥) (λ why. encoding_by meaning (Builtin handler) encoding text ≡ Err why) → MatchOption told (IsWhole handler encoding text) (λ why. encode_error (refused_run (encoded encoding (encode_treatment handler encoding) text).ending) ≡ Some why)
+refused-as meaning handler encoding text None never = unrefused-whole meaning handler encoding text never
+refused-as meaning handler encoding text (Some why) is = refused-error meaning handler encoding text why is
 
 -- Whole texts.
 

@@ -56,7 +56,7 @@ fn push_lines(
     ensures capacity { vec_capacity out.old ≤ vec_capacity out.new }
 {
     let mut left = text;
-    loop {
+    while !left.is_empty() {
         let cut = cut_at_lf(left);
         push_as_is(alloc, coder, cut.run, out)?;
         if !cut.ended {
@@ -65,6 +65,7 @@ fn push_lines(
         push_as_is(alloc, coder, line_end(newline), out)?;
         left = cut.left;
     }
+    Ok(())
 }
 
 /// Appends a text by the writing rule. What was appended before an `Err` stays.

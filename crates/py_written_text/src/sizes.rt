@@ -99,7 +99,7 @@ fn length_of_lines(coder: Coder, newline: Newlines, text: &str) -> u128
     let end = length_as_is(coder, line_end(newline));
     let mut left = text;
     let mut size: u128 = 0;
-    loop {
+    while !left.is_empty() {
         let cut = cut_at_lf(left);
         size += length_as_is(coder, cut.run);
         if !cut.ended {
@@ -108,6 +108,7 @@ fn length_of_lines(coder: Coder, newline: Newlines, text: &str) -> u128
         size += end;
         left = cut.left;
     }
+    size
 }
 
 /// How many bytes a text comes to by the writing rule. Only the rule of CR LF makes it longer.

@@ -6,13 +6,13 @@ use Rattle.py_written_text.specs.EachWritten.{IsWhole}
 use Rattle.py_written_text.proofs.Lines.{IsDone}
 use Rattle.py_written_text.proofs.pushing.push_lines.Given as goal
 
-abbrev pub invariant-loop-out : goal.invariant-loop-out
-invariant-loop-out l = record {
+abbrev pub invariant-loop-left : goal.invariant-loop-left
+invariant-loop-left l = record {
   is_text : shadow (Utf8 l.left);
   whole : IsWhole l.coder.errors l.coder.encoding (chars l.left);
   done : IsDone l.coder l.newline l.fn.out.items l.out.items (chars l.text) (chars l.left);
   room : vec_capacity l.fn.out ≤ vec_capacity l.out;
 }
 
-abbrev pub decreases-loop-out : goal.decreases-loop-out
-decreases-loop-out l = length (chars l.left)
+abbrev pub decreases-loop-left : goal.decreases-loop-left
+decreases-loop-left l = length (chars l.left)
