@@ -85,6 +85,7 @@ binary_passes false before call reply after is step is_in live all =
 no_text_question : (settings : TextSettings) (call : TextFileCall) (reply : FileReply) → text.is_getter call ≡ true → TextPassesAll settings call reply → ⊥
 no_text_question settings text.Flush reply asks all = let wrong : false ≡ true = asks in absurd (cc)
 no_text_question settings text.Close reply asks all = let wrong : false ≡ true = asks in absurd (cc)
+no_text_question settings text.Detach reply asks all = let wrong : false ≡ true = asks in absurd (cc)
 no_text_question settings (text.WriteText written) reply asks all = let wrong : false ≡ true = asks in absurd (cc)
 no_text_question settings call reply asks all = all
 
@@ -92,19 +93,29 @@ no_text_question settings call reply asks all = all
 not_refused : (settings : TextSettings) (call : TextFileCall) (reply : FileReply) (why : IoFault) → TextPassesAll settings call reply → reply ≡ Refused why → ⊥
 not_refused settings text.Flush Done why all is = cc
 not_refused settings text.Close Done why all is = cc
+not_refused settings text.Detach (Unwritten bytes place) why all is = cc
 not_refused settings (text.WriteText written) (Count count) why all is = cc
 not_refused settings call reply why all is = all
+
+-- the `detach` of a text leaves its bytes
+detached_bytes : (current : Life) (file : TextFile) (reply : FileReply) (after : TextFile) → text_file.DetachesIn current file reply after → after.bytes ≡ file.bytes
+detached_bytes life.Failed file reply after is = ap (λ (f : TextFile). f.bytes) is.leaves
+detached_bytes life.Live file reply after is = ap (λ (p : FileReply × TextFile). p.1.bytes) is
+detached_bytes life.Closed file reply after is = ap (λ (p : FileReply × TextFile). p.1.bytes) is
+detached_bytes life.Detached file reply after is = ap (λ (p : FileReply × TextFile). p.1.bytes) is
 
 settled_bytes : (file : TextFile) (call : TextFileCall) (reply : FileReply) (after : TextFile) (refused : Option IoFault) → TextPassesAll file.settings call reply → text_file.SettledBy file call refused reply after → after.bytes ≡ text_left file call
 settled_bytes file call reply after (Some why) all is = absurd (not_refused file.settings call reply why all is.0)
 settled_bytes file text.Flush Done after None all is = ap (λ (p : FileReply × TextFile). p.1.bytes) is
 settled_bytes file text.Close Done after None all is = ap (λ (p : FileReply × TextFile). p.1.bytes) is
+settled_bytes file text.Detach (Unwritten bytes place) after None all is = detached_bytes file.life file (Unwritten bytes place) after is
 settled_bytes file (text.WriteText written) (Count count) after None all is = ap (λ (p : FileReply × TextFile). p.1.bytes) is
 settled_bytes file call reply after None all is = absurd all
 
 waited_none : (file : TextFile) (call : TextFileCall) (reply : FileReply) (after : TextFile) → TextPassesAll file.settings call reply → text_file.WaitedBy file call reply after → ⊥
 waited_none file text.Flush Done after all part = not_refused file.settings text.Flush Done _ all part.0
 waited_none file text.Close Done after all part = not_refused file.settings text.Close Done _ all part.0
+waited_none file text.Detach (Unwritten bytes place) after all part = not_refused file.settings text.Detach (Unwritten bytes place) _ all part.0
 waited_none file (text.WriteText written) (Count count) after all part = not_refused file.settings (text.WriteText written) (Count count) _ all part.0
 waited_none file call reply after all part = all
 
@@ -118,6 +129,7 @@ left_bytes file call reply waited faulted after all (out_of_memory says left) = 
 text_passed_on : (before : TextState) (call : TextFileCall) (reply : FileReply) (after : TextState) → over.Answers before call reply after → before.text.life ≡ life.Live → TextPassesAll before.text.settings call reply → IsPassedOn after
 text_passed_on before text.Flush Done after step live all = step.passes
 text_passed_on before text.Close Done after step live all = step.passes live
+text_passed_on before text.Detach (Unwritten bytes place) after step live all = step.passes live
 text_passed_on before (text.WriteText written) (Count count) after step live all = step.passes all.0 all.1
 text_passed_on before call reply after step live all = absurd all
 

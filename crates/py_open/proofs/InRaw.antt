@@ -56,6 +56,7 @@ stream_goes buffer call reply before after moves sound had live = inl (moves ∙
 
 text_goes : (settings : TextSettings) (writes : Bool) (call : TextFileCall) (reply : FileReply) (before after : Life) → over.LifeMoves writes call reply before after → says_fault reply ≡ false → reply ≢ Refused fault.NoMemory → before ≡ life.Live → Goes after (TextPassesAll settings call reply)
 text_goes settings writes text.Close Done before after moves sound had live = inr (inl moves, tt)
+text_goes settings writes text.Detach (Unwritten bytes place) before after moves sound had live = inr (inr moves, tt)
 text_goes settings writes call (Refused fault.RawFault) before after moves sound had live = absurd (cc)
 text_goes settings writes call (Refused fault.NoMemory) before after moves sound had live = absurd (had refl)
 text_goes settings writes call reply before after moves sound had live = inl (moves ∙ live)

@@ -9,4 +9,5 @@ pub mod InRaw
 pub mod Names
 pub mod Joining
 pub mod OpenedRaw
+pub mod OpenedFile
 pub mod IoOpening

@@ -16,7 +16,7 @@ use Rattle.py_flat.specs.AllowedStep.{settled, waited_for, raw_faulted, out_of_m
 use Rattle.py_flat.specs.BinaryStep.{Settled, BinaryStep}
 use Rattle.py_plain_text.specs.TextFile.{TextSettings, TextFile}
 use Rattle.py_plain_text.specs.TextCalls as text
-use Rattle.py_plain_text.specs.TextCalls.{TextFileCall, Changes, changed, tells_name}
+use Rattle.py_plain_text.specs.TextCalls.{TextFileCall, changed, tells_name}
 use Rattle.py_plain_text.specs.TextRefusals as refusals
 use Rattle.py_plain_text.specs.TextExact.{carried_out, exact}
 use Rattle.py_plain_text.specs.TextAllowed as text_file
@@ -29,6 +29,7 @@ use Rattle.py_stream.specs.Answers.{HasCauses, ClosedWith, LifeMoves}
 use Rattle.py_stream.specs.Buffer.{Buffer, parts_when_closed}
 use Rattle.py_stream.specs.Handing.{owed_then}
 use Rattle.py_text.specs.Settings.{changes_of}
+use Rattle.py_text.specs.declared.reconfigure.Reconfigure.{Reconfigure}
 use Rattle.py_calls.specs.declared.call.Call.{Call}
 use Rattle.py_calls.specs.declared.call.Call.TheVariants as call
 use Rattle.py_calls.specs.declared.reply.Reply.{Reply}
@@ -36,12 +37,13 @@ use Rattle.py_calls.specs.Calls.{text_call, file_call, said}
 use Rattle.py_read_text.specs.TextState as state
 use Rattle.py_read_text.specs.TextState.{TextState}
 use Rattle.py_read_text.specs.Answers as over
+use Rattle.py_read_text.proofs.Living.{hands_none}
 use Rattle.py_text_session.specs.Session.{OwesNothing}
 use Rattle.py_binary.specs.Binary.{gone_stream, left_by, left_of, HandsOwed, AnswersCall, AnswersBy}
 use Rattle.py_binary.proofs.Leaving.{attached_on}
 use Rattle.py_open.specs.Session.{SessionFile, OfText, OfBinary, SessionView, TextSession, BinarySession, IsDetached, FileLeftBy, FileLeft, SaysOrStarves, AnswersTextBy, StaysOpenWithText, FileStepBy, SessionStep, FileSettlesBy, Settles, file_seen, raw_of, life_of, short_of, Answers, IsInStep}
 use Rattle.py_open.specs.Run.{IsSmooth}
-use Rattle.py_open.specs.Laws.{CompletesText, CompletesFile, Completes, gives_encoding, gives_handler, gives_newline, gives_line_buffering, gives_write_through, gives_chunk_size, KeepsText, KeepsSettings, OnlyReads}
+use Rattle.py_open.specs.Laws.{CompletesText, CompletesFile, Completes, gives, gives_chunk_size, SettingStays, KeepsText, KeepsSettings, OnlyReads}
 use Rattle.py_stream.proofs.Closing.{closes_whole}
 
 -- What is left of a stream.
@@ -113,42 +115,14 @@ unset : {A : Type 0} → (given : Option A) (own : A) → is_some given ≡ fals
 unset None own is = refl
 unset (Some other) own is = absurd (cc)
 
--- what is read of a text's settings after it is given others, or a chunk size
-changed_stay : {A : Type 0} → (read : TextSettings → A) (given : Option A) (changes : Changes) (reply : FileReply) (settings : TextSettings) → read (changed settings changes) ≡ unwrap_or given (read settings) → is_some given ≡ false → read (over.settings_after (text.Reconfigure changes) reply settings) ≡ read settings
-changed_stay read given changes Done settings is none = is ∙ unset given (read settings) none
-changed_stay read given changes reply settings is none = refl
-
-sized_stay : {A : Type 0} → (read : TextSettings → A) (size : ℕ) (reply : FileReply) (settings : TextSettings) → read (record settings { chunk_size = size }) ≡ read settings → read (over.settings_after (text.SetChunkSize size) reply settings) ≡ read settings
-sized_stay read size Done settings is = is
-sized_stay read size reply settings is = refl
-
-encoding_stays : (call : Call) (reply : FileReply) (settings : TextSettings) → gives_encoding call ≡ false → (over.settings_after (text_call call) reply settings).encoding ≡ settings.encoding
-encoding_stays (call.Reconfigure changes) reply settings is = changed_stay (λ own. own.encoding) changes.encoding (changes_of changes) reply settings refl is
-encoding_stays (call.SetChunkSize size) reply settings is = sized_stay (λ own. own.encoding) size reply settings refl
-encoding_stays call reply settings is = refl
-
-handler_stays : (call : Call) (reply : FileReply) (settings : TextSettings) → gives_handler call ≡ false → (over.settings_after (text_call call) reply settings).handler ≡ settings.handler
-handler_stays (call.Reconfigure changes) reply settings is = changed_stay (λ own. own.handler) changes.errors (changes_of changes) reply settings refl is
-handler_stays (call.SetChunkSize size) reply settings is = sized_stay (λ own. own.handler) size reply settings refl
-handler_stays call reply settings is = refl
-
-newline_stays : (call : Call) (reply : FileReply) (settings : TextSettings) → gives_newline call ≡ false → (over.settings_after (text_call call) reply settings).newline ≡ settings.newline
-newline_stays (call.Reconfigure changes) reply settings is = changed_stay (λ own. own.newline) changes.newline (changes_of changes) reply settings refl is
-newline_stays (call.SetChunkSize size) reply settings is = sized_stay (λ own. own.newline) size reply settings refl
-newline_stays call reply settings is = refl
-
-lines_stay : (call : Call) (reply : FileReply) (settings : TextSettings) → gives_line_buffering call ≡ false → (over.settings_after (text_call call) reply settings).line_buffering ≡ settings.line_buffering
-lines_stay (call.Reconfigure changes) reply settings is = changed_stay (λ own. own.line_buffering) changes.line_buffering (changes_of changes) reply settings refl is
-lines_stay (call.SetChunkSize size) reply settings is = sized_stay (λ own. own.line_buffering) size reply settings refl
-lines_stay call reply settings is = refl
-
-through_stays : (call : Call) (reply : FileReply) (settings : TextSettings) → gives_write_through call ≡ false → (over.settings_after (text_call call) reply settings).write_through ≡ settings.write_through
-through_stays (call.Reconfigure changes) reply settings is = changed_stay (λ own. own.write_through) changes.write_through (changes_of changes) reply settings refl is
-through_stays (call.SetChunkSize size) reply settings is = sized_stay (λ own. own.write_through) size reply settings refl
-through_stays call reply settings is = refl
+-- a setting that a call doesn't give is what it was: so it is where `Reconfigure` changes it by what is given of it, and `SetChunkSize` doesn't
+setting_stays : {A : Type 0} → (given : Reconfigure → Option A) (own : TextSettings → A) → ((changes : Reconfigure) (settings : TextSettings) → own (changed settings (changes_of changes)) ≡ unwrap_or (given changes) (own settings)) → ((size : ℕ) (settings : TextSettings) → own (record settings { chunk_size = size }) ≡ own settings) → (call : Call) (reply : FileReply) (settings : TextSettings) → gives given call ≡ false → own (over.settings_after (text_call call) reply settings) ≡ own settings
+setting_stays given own changes_it sized (call.Reconfigure changes) Done settings none = changes_it changes settings ∙ unset (given changes) (own settings) none
+setting_stays given own changes_it sized (call.SetChunkSize size) Done settings none = sized size settings
+setting_stays given own changes_it sized call reply settings none = refl
 
 chunk_stays : (call : Call) (reply : FileReply) (settings : TextSettings) → gives_chunk_size call ≡ false → (over.settings_after (text_call call) reply settings).chunk_size ≡ settings.chunk_size
-chunk_stays (call.Reconfigure changes) reply settings is = changed_stay (λ own. own.chunk_size) None (changes_of changes) reply settings refl refl
+chunk_stays (call.Reconfigure changes) Done settings is = refl
 chunk_stays (call.SetChunkSize size) reply settings is = absurd (cc)
 chunk_stays call reply settings is = refl
 
@@ -163,13 +137,17 @@ settings_kept before calls after is = record {
   chunk_size = λ none. ap (λ (settings : TextSettings). settings.chunk_size) is;
 }
 
+-- so it is of the settings that a call leaves
+setting_kept : {A : Type 0} → (given : Reconfigure → Option A) (own : TextSettings → A) → ((changes : Reconfigure) (settings : TextSettings) → own (changed settings (changes_of changes)) ≡ unwrap_or (given changes) (own settings)) → ((size : ℕ) (settings : TextSettings) → own (record settings { chunk_size = size }) ≡ own settings) → (before : TextSettings) (call : Call) (reply : FileReply) (after : TextSettings) → after ≡ over.settings_after (text_call call) reply before → SettingStays given own before (call ∷ []) after
+setting_kept given own changes_it sized before call reply after is none = ap own is ∙ setting_stays given own changes_it sized call reply before none.0
+
 text_settings_keep : (before : TextSettings) (call : Call) (reply : FileReply) (after : TextSettings) → after ≡ over.settings_after (text_call call) reply before → KeepsText before (call ∷ []) after
 text_settings_keep before call reply after is = record {
-  encoding = λ none. ap (λ (settings : TextSettings). settings.encoding) is ∙ encoding_stays call reply before none.0;
-  handler = λ none. ap (λ (settings : TextSettings). settings.handler) is ∙ handler_stays call reply before none.0;
-  newline = λ none. ap (λ (settings : TextSettings). settings.newline) is ∙ newline_stays call reply before none.0;
-  line_buffering = λ none. ap (λ (settings : TextSettings). settings.line_buffering) is ∙ lines_stay call reply before none.0;
-  write_through = λ none. ap (λ (settings : TextSettings). settings.write_through) is ∙ through_stays call reply before none.0;
+  encoding = setting_kept (λ changes. changes.encoding) (λ settings. settings.encoding) (λ changes settings. refl) (λ size settings. refl) before call reply after is;
+  handler = setting_kept (λ changes. changes.errors) (λ settings. settings.handler) (λ changes settings. refl) (λ size settings. refl) before call reply after is;
+  newline = setting_kept (λ changes. changes.newline) (λ settings. settings.newline) (λ changes settings. refl) (λ size settings. refl) before call reply after is;
+  line_buffering = setting_kept (λ changes. changes.line_buffering) (λ settings. settings.line_buffering) (λ changes settings. refl) (λ size settings. refl) before call reply after is;
+  write_through = setting_kept (λ changes. changes.write_through) (λ settings. settings.write_through) (λ changes settings. refl) (λ size settings. refl) before call reply after is;
   chunk_size = λ none. ap (λ (settings : TextSettings). settings.chunk_size) is ∙ chunk_stays call reply before none.0;
 }
 
@@ -344,13 +322,17 @@ step_completes (BinarySession before) call reply (TextSession after) step smooth
 
 -- Sessions that are in step with their raw, or only read.
 
+-- a session's text isn't detached by a call
+no_text_detach : (call : Call) → text.is_detach (text_call call) ≡ false
+no_text_detach call = grind arith
+
 -- a text that isn't written, and owes nothing, goes on so
-pub text_owes_none : (getter : Bool) (before : TextState) (call : TextFileCall) (reply : FileReply) (after : TextState) → AnswersTextBy getter before call reply after → before.text.buffer.can.writable ≡ false → OwesNothing before → OwesNothing after
-text_owes_none true before call reply after step reads none = subst OwesNothing (sym step.same) (record { none = none.none; own = none.own; life_is = none.life_is })
-text_owes_none false before call reply after step reads none = record {
+pub text_owes_none : (getter : Bool) (before : TextState) (call : TextFileCall) (reply : FileReply) (after : TextState) → text.is_detach call ≡ false → AnswersTextBy getter before call reply after → before.text.buffer.can.writable ≡ false → OwesNothing before → OwesNothing after
+text_owes_none true before call reply after other step reads none = subst OwesNothing (sym step.same) (record { none = none.none; own = none.own; life_is = none.life_is })
+text_owes_none false before call reply after other step reads none = record {
   none = (step.spares reads none.none).owed;
   own = step.tied.owed reads ∙ none.own;
-  life_is = step.tied.life_is reads none.life_is;
+  life_is = step.tied.life_is reads none.life_is (hands_none call reply other);
 }
 
 pub text_bytes : (getter : Bool) (before : TextState) (call : TextFileCall) (reply : FileReply) (after : TextState) → AnswersTextBy getter before call reply after → before.text.buffer.can.writable ≡ false → OwesNothing before → IsTrue before.text.buffer.raw.tells_bytes → after.text.buffer.raw.bytes ≡ before.text.buffer.raw.bytes
@@ -362,10 +344,10 @@ pub text_can : (getter : Bool) (before : TextState) (call : TextFileCall) (reply
 text_can true before call reply after step = ap (λ (t : TextState). t.text.buffer.can) step.same
 text_can false before call reply after step = step.keeps.can
 
-text_in_step : (getter : Bool) (before : TextState) (call : TextFileCall) (reply : FileReply) (after : TextState) → AnswersTextBy getter before call reply after → IsInStep (TextSession before) → IsInStep (TextSession after)
-text_in_step getter before call reply after step is = λ reads.
+text_in_step : (getter : Bool) (before : TextState) (call : TextFileCall) (reply : FileReply) (after : TextState) → text.is_detach call ≡ false → AnswersTextBy getter before call reply after → IsInStep (TextSession before) → IsInStep (TextSession after)
+text_in_step getter before call reply after other step is = λ reads.
     let read : before.text.buffer.can.writable ≡ false = sym (ap (λ (can : Abilities). can.writable) (text_can getter before call reply after step)) ∙ reads in
-    text_owes_none getter before call reply after step read (is read)
+    text_owes_none getter before call reply after other step read (is read)
 
 -- what a stream that doesn't write, or has no buffer, leaves owed
 owes_none : (before : Stream) (call : FileCall) (reply : FileReply) (after : Stream) → (step : AnswersCall before call reply after) → IsInStep (BinarySession before) → (after.can.writable ≡ false) ⊎ (after.buffer ≡ None) → step.answered.owed ≡ nothing_owed step.answered.place
@@ -383,14 +365,14 @@ binary_in_step true before call reply after step is = subst (λ (s : Stream). Is
 binary_in_step false before call reply after step is = λ none. subst (λ (s : Stream). s.owed ≡ nothing_owed s.place) (sym step.leaves) (left_settled before.life step.answered.life step.answered (owes_none before call reply after step is none))
 
 pub step_in_step : (before : SessionView) (call : Call) (reply : Reply) (after : SessionView) → Answers before call reply after → IsInStep before → IsInStep after
-step_in_step (TextSession before) call reply (TextSession after) step is = text_in_step (text.is_getter (text_call call)) before (text_call call) (said reply) after step.answers is
+step_in_step (TextSession before) call reply (TextSession after) step is = text_in_step (text.is_getter (text_call call)) before (text_call call) (said reply) after (no_text_detach call) step.answers is
 step_in_step (BinarySession before) call reply (BinarySession after) step is = binary_in_step (is_getter (file_call call)) before (file_call call) (said reply) after step is
 step_in_step (TextSession before) call reply (BinarySession after) step is = absurd step
 step_in_step (BinarySession before) call reply (TextSession after) step is = absurd step
 
 pub step_reads : (before : SessionView) (call : Call) (reply : Reply) (after : SessionView) → Answers before call reply after → OnlyReads before → OnlyReads after
 step_reads (TextSession before) call reply (TextSession after) step reads =
-    (ap (λ (can : Abilities). can.writable) (text_can (text.is_getter (text_call call)) before (text_call call) (said reply) after step.answers) ∙ reads.0, text_owes_none (text.is_getter (text_call call)) before (text_call call) (said reply) after step.answers reads.0 reads.1)
+    (ap (λ (can : Abilities). can.writable) (text_can (text.is_getter (text_call call)) before (text_call call) (said reply) after step.answers) ∙ reads.0, text_owes_none (text.is_getter (text_call call)) before (text_call call) (said reply) after (no_text_detach call) step.answers reads.0 reads.1)
 step_reads (BinarySession before) call reply (BinarySession after) step reads =
     let can = (binary_keeps (is_getter (file_call call)) before (file_call call) (said reply) after step).1.0 in
     let read : after.can.writable ≡ false = ap (λ (can : Abilities). can.writable) can ∙ reads.0 in
@@ -466,9 +448,9 @@ text_shuts_by life.Detached before call reply after is asks step opens reads sti
     let lives : after.text.life ≢ life.Closed = λ closed. let wrong : life.Detached ≡ life.Closed = sym is ∙ closed in absurd (cc) in
     open_by after.text.life after.text.buffer.raw lives (opens lives).raw
 
-text_shuts : (getter : Bool) (before : TextState) (call : TextFileCall) (reply : FileReply) (after : TextState) → text.is_getter call ≡ getter → AnswersTextBy getter before call reply after → StaysOpenWithText after → OnlyReads (TextSession before) → ClosedWith before.text.life before.text.buffer.raw → ClosedWith after.text.life after.text.buffer.raw
-text_shuts true before call reply after is step opens reads shut = subst (λ (t : TextState). ClosedWith t.text.life t.text.buffer.raw) (sym step.same) shut
-text_shuts false before call reply after is step opens reads shut = text_shuts_by after.text.life before call reply after refl is step opens reads (text_owes_none false before call reply after step reads.0 reads.1) shut
+text_shuts : (getter : Bool) (before : TextState) (call : TextFileCall) (reply : FileReply) (after : TextState) → text.is_getter call ≡ getter → text.is_detach call ≡ false → AnswersTextBy getter before call reply after → StaysOpenWithText after → OnlyReads (TextSession before) → ClosedWith before.text.life before.text.buffer.raw → ClosedWith after.text.life after.text.buffer.raw
+text_shuts true before call reply after is other step opens reads shut = subst (λ (t : TextState). ClosedWith t.text.life t.text.buffer.raw) (sym step.same) shut
+text_shuts false before call reply after is other step opens reads shut = text_shuts_by after.text.life before call reply after refl is step opens reads (text_owes_none false before call reply after other step reads.0 reads.1) shut
 
 binary_shuts : (getter : Bool) (before : Stream) (call : FileCall) (reply : FileReply) (after : Stream) → AnswersBy getter before call reply after → OnlyReads (BinarySession before) → ClosedWith before.life before.raw → ClosedWith after.life after.raw
 binary_shuts true before call reply after step reads shut = subst (λ (s : Stream). ClosedWith s.life s.raw) (sym step.same) shut
@@ -480,7 +462,7 @@ binary_shuts false before call reply after step reads shut =
     (subst (λ (raw : Raw). ClosedWith (left_of before.life a).life raw) (sym (left_raw before.life a.life a)) (subst (λ (current : Life). ClosedWith current a.raw) (sym (left_life before.life a.life a refl)) closed))
 
 pub step_shuts : (before : SessionView) (call : Call) (reply : Reply) (after : SessionView) → Answers before call reply after → OnlyReads before → ClosedWith (life_of before) (raw_of before) → ClosedWith (life_of after) (raw_of after)
-step_shuts (TextSession before) call reply (TextSession after) step reads shut = text_shuts (text.is_getter (text_call call)) before (text_call call) (said reply) after refl step.answers step.is_open reads shut
+step_shuts (TextSession before) call reply (TextSession after) step reads shut = text_shuts (text.is_getter (text_call call)) before (text_call call) (said reply) after refl (no_text_detach call) step.answers step.is_open reads shut
 step_shuts (BinarySession before) call reply (BinarySession after) step reads shut = binary_shuts (is_getter (file_call call)) before (file_call call) (said reply) after step reads shut
 step_shuts (TextSession before) call reply (BinarySession after) step reads shut = absurd step
 step_shuts (BinarySession before) call reply (TextSession after) step reads shut = absurd step

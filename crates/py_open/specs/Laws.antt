@@ -1,5 +1,5 @@
 -- What holds of whole runs, whatever raw is below.
-use Rattle.std.specs.Prelude.{◌≡◌, Bool, true, false, ℕ, List, [], ◌∷◌, None, is_some}
+use Rattle.std.specs.Prelude.{◌≡◌, Bool, true, false, ℕ, List, [], ◌∷◌, Option, None, is_some}
 use Rattle.py_flat.specs.declared.fault.IoFault.TheVariants as fault
 use Rattle.py_flat.specs.Calls.{FileCall, FileReply, Done, Count, Unwritten, Refused}
 use Rattle.py_flat.specs.Calls as file
@@ -12,6 +12,7 @@ use Rattle.py_plain_text.specs.TextRefusals.{refusal}
 use Rattle.py_plain_text.specs.TextWriting.{written_bytes}
 use Rattle.py_plain_text.specs.TextExact.{carried_out, after_writing, exact}
 use Rattle.py_raw.specs.RawStream.{Raw, WhereTold, WhereBytes}
+use Rattle.py_text.specs.declared.reconfigure.Reconfigure.{Reconfigure}
 use Rattle.py_stream.specs.Stream.{Stream, file_of, nothing_owed}
 use Rattle.py_stream.specs.Answers as stream
 use Rattle.py_calls.specs.declared.call.Call.{Call}
@@ -87,27 +88,12 @@ RunsComplete before (call ∷ calls) [] after = ⊥
 
 -- What stays.
 
--- whether a call gives a text an encoding, a handler, a newline rule, a line buffering, a write through, or a chunk size
-abbrev pub gives_encoding : Call → Bool
-gives_encoding (call.Reconfigure changes) = is_some changes.encoding
-gives_encoding call = false
+-- whether a call gives a text a setting, by what a `Reconfigure` gives of it
+abbrev pub gives : {A : Type 0} → (Reconfigure → Option A) → Call → Bool
+gives given (call.Reconfigure changes) = is_some (given changes)
+gives given call = false
 
-abbrev pub gives_handler : Call → Bool
-gives_handler (call.Reconfigure changes) = is_some changes.errors
-gives_handler call = false
-
-abbrev pub gives_newline : Call → Bool
-gives_newline (call.Reconfigure changes) = is_some changes.newline
-gives_newline call = false
-
-abbrev pub gives_line_buffering : Call → Bool
-gives_line_buffering (call.Reconfigure changes) = is_some changes.line_buffering
-gives_line_buffering call = false
-
-abbrev pub gives_write_through : Call → Bool
-gives_write_through (call.Reconfigure changes) = is_some changes.write_through
-gives_write_through call = false
-
+-- whether a call gives a text a chunk size
 abbrev pub gives_chunk_size : Call → Bool
 gives_chunk_size (call.SetChunkSize size) = true
 gives_chunk_size call = false
@@ -117,13 +103,17 @@ abbrev pub NoneGives : (Call → Bool) → List Call → Type 0
 NoneGives gives [] = Unit {0}
 NoneGives gives (call ∷ calls) = (gives call ≡ false) × NoneGives gives calls
 
--- each setting of a text stays over calls of which none gives another
+-- a setting stays over calls of which none gives another
+abbrev pub SettingStays : {A : Type 0} → (Reconfigure → Option A) → (TextSettings → A) → (before : TextSettings) → List Call → (after : TextSettings) → Type 0
+SettingStays given own before calls after = NoneGives (gives given) calls → own after ≡ own before
+
+-- so does each setting of a text
 pub record KeepsText (before : TextSettings) (calls : List Call) (after : TextSettings) : Type 0 where
-  pub encoding : NoneGives gives_encoding calls → after.encoding ≡ before.encoding
-  pub handler : NoneGives gives_handler calls → after.handler ≡ before.handler
-  pub newline : NoneGives gives_newline calls → after.newline ≡ before.newline
-  pub line_buffering : NoneGives gives_line_buffering calls → after.line_buffering ≡ before.line_buffering
-  pub write_through : NoneGives gives_write_through calls → after.write_through ≡ before.write_through
+  pub encoding : SettingStays (λ changes. changes.encoding) (λ settings. settings.encoding) before calls after
+  pub handler : SettingStays (λ changes. changes.errors) (λ settings. settings.handler) before calls after
+  pub newline : SettingStays (λ changes. changes.newline) (λ settings. settings.newline) before calls after
+  pub line_buffering : SettingStays (λ changes. changes.line_buffering) (λ settings. settings.line_buffering) before calls after
+  pub write_through : SettingStays (λ changes. changes.write_through) (λ settings. settings.write_through) before calls after
   pub chunk_size : NoneGives gives_chunk_size calls → after.chunk_size ≡ before.chunk_size
 
 -- what a session can do, its kind and its settings, stay over these calls
@@ -147,10 +137,11 @@ FilePassesAll file.Close Done = Unit {0}
 FilePassesAll file.Detach (Unwritten bytes place) = Unit {0}
 FilePassesAll call reply = ⊥
 
--- of a live text: a `flush` or a `close` that was done, and with line buffering an answered write of a text with a line end
+-- of a live text: a `flush`, a `close` or a `detach` that was done, and with line buffering an answered write of a text with a line end
 abbrev pub TextPassesAll : TextSettings → TextFileCall → FileReply → Type 0
 TextPassesAll settings text.Flush Done = Unit {0}
 TextPassesAll settings text.Close Done = Unit {0}
+TextPassesAll settings text.Detach (Unwritten bytes place) = Unit {0}
 TextPassesAll settings (text.WriteText written) (Count count) = (settings.line_buffering ≡ true) × (has_line_end written ≡ true)
 TextPassesAll settings call reply = ⊥
 

@@ -1,10 +1,10 @@
 -- Opening a path: a plan, a raw that an opener opens for it, and a session over that.
-use Rattle.std.specs.Prelude.{◌≡◌, ◌⊎◌, ℕ, IsFalse, true, List, Option, Some, None, unwrap_or, IsSome, Result, Ok, Err, codes}
+use Rattle.std.specs.Prelude.{◌≡◌, ◌⊎◌, ℕ, IsTrue, IsFalse, true, List, Option, Some, None, unwrap_or, IsSome, Result, Ok, Err, codes}
 use Rattle.py_flat.specs.declared.fault.IoFault.{IoFault}
 use Rattle.py_flat.specs.declared.fault.IoFault.TheVariants as fault
 use Rattle.py_raw.specs.RawStream.{Raw}
 use Rattle.py_raw.specs.RawMode.{raw_mode_text}
-use Rattle.py_raw.specs.Opener.{OpenerView, Opens, OpenFaults, OpenLacksMemory, NoOpenerFault, misses}
+use Rattle.py_raw.specs.Opener.{OpenerView, Opens, OpenFaults, OpenLacksMemory, NoOpenerFault, misses, opened_bytes}
 use Rattle.py_stream.specs.declared.access.Access.TheVariants as access
 use Rattle.py_registry.specs.declared.codec.PyCodec.{PyCodec}
 use Rattle.py_registry.specs.Machine.{Machine}
@@ -14,8 +14,9 @@ use Rattle.py_mode.specs.declared.plan.OpenPlan.{OpenPlan}
 use Rattle.py_mode.specs.Plan.{buffer_of, plan_of, PlanAsksFunctions, RefusesPlan, Accepts}
 use Rattle.py_open.specs.declared.open_failed.OpenFailed.{OpenFailed}
 use Rattle.py_open.specs.declared.open_failed.OpenFailed.TheVariants as failed
-use Rattle.py_open.specs.Session.{SessionView}
+use Rattle.py_open.specs.Session.{SessionView, file_seen}
 use Rattle.py_open.specs.Opening.{OpensSession, RefusesSession, access_of}
+use Rattle.py_open.specs.OpenedFile.{opened_file}
 
 -- Raws that were opened for a plan.
 
@@ -52,12 +53,14 @@ pub record HandsBack (before : OpenerView) (path : List ℕ) (plan : OpenPlan) (
   pub refuses : RefusesSession raw plan why back
   pub cause : RefusesOrLacks raw plan why back
 
--- a session over the raw that was opened for a plan; of an opener that counts exactly no fault was counted
+-- a session over the raw that was opened for a plan; of an opener that counts exactly no fault was counted. Of an opener that tells it is the
+-- file that the plan opens over what the path held
 pub record OpensSessionAt (before : OpenerView) (path : List ℕ) (plan : OpenPlan) (session : SessionView) (after : OpenerView) : Type 0 where
   pub raw : Raw
   pub opens : Opens before path (raw_mode plan) raw after
   pub exact : NoOpenerFault before after
   pub session_is : OpensSession raw plan session
+  pub file : IsTrue before.tells → file_seen session ≡ opened_file plan (opened_bytes (raw_mode plan) (before.holds path))
 
 -- a path's opening by an accepted plan: a session; or why there is none, by the raw, for want of memory with nothing opened, or by the opener
 abbrev pub PathOutcome : {R : Type 0} → (R → Raw) → OpenerView → List ℕ → OpenPlan → Result SessionView (OpenFailed R) → OpenerView → Type 0

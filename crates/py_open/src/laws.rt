@@ -1,7 +1,7 @@
 //! Laws of the definitions that the contracts cite: what any run of a session has to be.
 //!
 //! No function here does anything; what each ensures is a law.
-ghost use Rattle.std.specs.Prelude.{◌≡◌, ◌≢◌, ◌≤◌, true, IsTrue, List, [], ◌∷◌, ◌++◌, length};
+ghost use Rattle.std.specs.Prelude.{◌≡◌, ◌≢◌, ◌≤◌, ℕ, true, IsTrue, List, [], ◌∷◌, ◌++◌, length};
 ghost use Rattle.py_flat.specs.declared.life.Life.TheVariants as life;
 ghost use Rattle.py_flat.specs.Calls.{FileReply};
 ghost use Rattle.py_plain_text.specs.TextFile.{TextFile};
@@ -15,9 +15,10 @@ ghost use Rattle.py_calls.specs.Calls.{said};
 ghost use Rattle.py_open.specs.Session.{SessionFile, OfText, SessionView, Answers, IsInStep, HasOpenRaw, file_seen, raw_of, life_of, life_in, bytes_in, SessionStep};
 ghost use Rattle.py_mode.specs.declared.plan.OpenPlan.{OpenPlan};
 ghost use Rattle.py_flat.specs.declared.fault.IoFault.{IoFault};
-ghost use Rattle.py_raw.specs.Opener.{IsOpened};
+ghost use Rattle.py_raw.specs.Opener.{OpenerView, Opens, IsOpened, opened_bytes};
 ghost use Rattle.py_mode.specs.Plan.{IsPlanned};
 ghost use Rattle.py_open.specs.Opening.{OpensSession, RefusesSession};
+ghost use Rattle.py_open.specs.OpenedFile.{opened_file};
 ghost use Rattle.py_open.specs.Paths.{raw_mode, RefusesOrLacks};
 ghost use Rattle.py_open.specs.Run.{Entry, IsRun, IsHistory, IsCalm, IsSmooth, NoneLacksMemory, AllSettle, all_said, calls_of, replies_of};
 ghost use Rattle.py_open.specs.Laws.{IsExact, HasHistory, RunsInTwo, RunsComplete, KeepsSettings, OnlyReads, PassesAll, HoldsFlat, StaysClosed, StaysDetached, FileStaysDetached};
@@ -116,6 +117,13 @@ pub fn an_ended_session_calls_no_raw()
 /// where it stands or ends, or to move there, or where it can't seek and the plan's stream is read and written through a buffer.
 pub fn an_opened_raw_suits_its_plan()
     ensures { (raw back : Raw) (plan : OpenPlan) (refused : IoFault) → IsPlanned plan → IsOpened (raw_mode plan) raw → RefusesSession raw plan refused back → RefusesOrLacks raw plan refused back }
+{}
+
+/// A session over the raw that an opener opened for its plan, where the opener tells what its paths hold, is the file that the plan opens
+/// over what the path held: with its bytes, none where `w` emptied it or it was made; at the start, or with `a` at the end; and live. So
+/// a run from there is the model's run from that file (`a_run_is_a_history`, `a_smooth_run_settles`).
+pub fn an_opened_session_is_the_file_of_its_path()
+    ensures { (before after : OpenerView) (path : List ℕ) (raw : Raw) (plan : OpenPlan) (session : SessionView) → Opens before path (raw_mode plan) raw after → IsTrue before.tells → OpensSession raw plan session → file_seen session ≡ opened_file plan (opened_bytes (raw_mode plan) (before.holds path)) }
 {}
 
 /// A raw that is closed just where its session is stays so over a run of a session that only reads: only a `Close` closes it, and

@@ -5,7 +5,7 @@ ghost use Rattle.py_mode.specs.Plan.{IsPlanned};
 ghost use Rattle.py_raw.specs.Opener.{OpenKeeps};
 ghost use Rattle.py_open.specs.Paths.{mode_or_r, PathOutcome, IoOpenOutcome, FailsWhereMissed};
 
-use crate::laws::an_opened_raw_suits_its_plan;
+use crate::laws::{an_opened_raw_suits_its_plan, an_opened_session_is_the_file_of_its_path};
 use crate::{OpenArgs, OpenFailed, OpenPlan, Session, plan_open};
 use py_flat::IoFault;
 use py_raw::{OpenError, Opener};
@@ -25,6 +25,7 @@ fn open_planned<O: Opener>(
     ensures outcome { PathOutcome O.Raw.shows (O.shows opener.old) path.now plan result (O.shows opener.new) }
 {
     an_opened_raw_suits_its_plan();
+    an_opened_session_is_the_file_of_its_path();
     let raw = match opener.open_raw(alloc, path, plan.mode.rawmode()) {
         Ok(raw) => raw,
         Err(OpenError::Fault) => return Err(OpenFailed::Opener),

@@ -1,28 +1,19 @@
 -- What the clauses of the program speak of beside its outcome.
-use Rattle.std.specs.Prelude.{◌≡◌, ◌≢◌, ◌≤◌, ℕ, ◌⊎◌, Bool, true, false, IsTrue, IsFalse, List, length, Option, Some, None, Ok, IsErr, if◌then◌else◌}
-use Rattle.py_flat.specs.declared.life.Life.TheVariants as life
-use Rattle.py_flat.specs.FlatFile.{FlatFile}
+use Rattle.std.specs.Prelude.{◌≡◌, ◌≢◌, ◌≤◌, ℕ, ◌⊎◌, true, false, IsTrue, IsFalse, List, length, Option, Some, None, Ok, IsErr, if◌then◌else◌}
 use Rattle.py_flat.specs.Causes.{rose, Rose, RoseBy}
 use Rattle.py_raw.specs.RawStream.{Raw, tells as raw_tells}
 use Rattle.py_raw.specs.Opener.{OpenerView, NoOpenerFault, misses, IsOpened, opened_bytes, HoldsTheSame, OthersHoldTheSame}
 use Rattle.py_source_sink.specs.Source.{SourceView, NoSourceFault}
 use Rattle.py_source_sink.specs.Sink.{NoSinkFault}
-use Rattle.py_stream.specs.Stream.{buffering_of}
 use Rattle.py_stream.specs.declared.access.Access.TheVariants as access
-use Rattle.py_stream.specs.Access.{can_of}
 use Rattle.py_calls.specs.declared.call.Call.{Call}
 use Rattle.py_calls.specs.declared.reply.Reply.{Reply}
-use Rattle.py_mode.specs.declared.plan.PlanKind.{PlanKind}
-use Rattle.py_mode.specs.declared.plan.PlanKind.TheVariants as kind
 use Rattle.py_mode.specs.declared.plan.TextPlan.{TextPlan}
-use Rattle.py_mode.specs.declared.mode.Mode.{Mode}
 use Rattle.py_mode.specs.declared.open_args.OpenArgs.{OpenArgs}
 use Rattle.py_mode.specs.declared.plan.OpenPlan.{OpenPlan}
 use Rattle.py_mode.specs.Plan.{built_in_plan}
-use Rattle.py_plain_text.specs.TextFile.{TextFile}
-use Rattle.py_text_session.specs.Opening.{text_opened}
-use Rattle.py_open.specs.Session.{SessionFile, OfText, OfBinary, SessionView, raw_of, bytes_in}
-use Rattle.py_open.specs.Opening.{access_of, text_settings}
+use Rattle.py_open.specs.Session.{SessionFile, SessionView, raw_of, bytes_in}
+use Rattle.py_open.specs.Opening.{access_of}
 use Rattle.py_open.specs.Run.{NoneLacksMemory, RunsCalls, AllSettle, all_said}
 use Rattle.py_open.specs.Laws.{RunsComplete, exact_replies, exact_after}
 use Rattle.py_script.specs.CommandWords.{Command, Run, Help, Version}
@@ -30,6 +21,7 @@ use Rattle.py_script.specs.Help.{help_text, version_text}
 use Rattle.py_script.specs.Script.{script_calls}
 use Rattle.py_script.specs.ReplyLine.{reply_lines}
 use Rattle.py_program.specs.Outside.{script_limit, IsMalformed, ReadsScript, Prints}
+use Rattle.py_open.specs.OpenedFile.{text_by, opened_file}
 use Rattle.py_open.specs.Paths.{raw_mode, MovesRaw}
 use Rattle.py_program.specs.Outcome.{Outside, closed_calls, PathHoldsFlat}
 
@@ -160,34 +152,6 @@ KeepsOthers (Some Version) old new = HoldsTheSame old new
 KeepsOthers None old new = HoldsTheSame old new
 
 -- Runs in which nothing went wrong.
-
--- where a session begins on an opener's raw, which can seek and stands at its start: one that appends begins at the end
-abbrev pub begins_with : Bool → List ℕ → ℕ
-begins_with appends bytes = if appends then length bytes else 0
-
--- the text that is opened over bytes by a mode
-abbrev pub text_by : Mode → TextPlan → List ℕ → TextFile
-text_by mode text bytes = text_opened bytes (begins_with (can_of (access_of mode) true).appending bytes) (can_of (access_of mode) true) (text_settings text)
-
--- the stream of bytes that is opened over bytes by a mode, with a buffer or without
-abbrev pub bytes_by : Mode → (buffer : Option ℕ) → List ℕ → FlatFile
-bytes_by mode buffer bytes = record {
-  bytes = bytes;
-  place = begins_with (can_of (access_of mode) true).appending bytes;
-  can = can_of (access_of mode) true;
-  buffering = buffering_of buffer;
-  life = life.Live;
-}
-
--- the flat file of a session over bytes, by what is planned
-abbrev pub file_by : PlanKind → Mode → List ℕ → SessionFile
-file_by (kind.Text text) mode bytes = OfText (text_by mode text bytes)
-file_by (kind.Buffered size) mode bytes = OfBinary (bytes_by mode (Some size) bytes)
-file_by kind.Bare mode bytes = OfBinary (bytes_by mode None bytes)
-
--- the flat file that a plan opens over bytes
-abbrev pub opened_file : OpenPlan → List ℕ → SessionFile
-opened_file plan bytes = file_by plan.kind plan.mode bytes
 
 -- replies settle on the file that a plan opens over bytes, from there to a last file, of which the path holds the bytes in the end
 pub record SettlesAtPath (path : List ℕ) (plan : OpenPlan) (bytes : List ℕ) (calls : List Call) (replies : List Reply) (after : OpenerView) : Type 0 where

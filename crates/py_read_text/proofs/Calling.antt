@@ -190,7 +190,7 @@ flush_so old after result live is answers =
       unclosed = λ some closed. answers.stays refl closed;
       shut = λ own. tt;
       spares = λ can none. let spared = answers.spares can none in record { bytes = spared.bytes; written = spared.written; owed = spared.owed };
-      tied = record { owed = λ can. refl; life_is = λ can was. refl };
+      tied = record { owed = λ can. refl; life_is = λ can was had. refl };
       stands = λ stood. answers.stands;
       told = λ told. flush_told old after result live is.kept answers (flush_flat (flat_of old.buffer) (flat_of after) (done_reply result) after.short (says_fault (done_reply result)) (answers.told (rw is.kept refl) told));
       needs = λ gives. absurd (cc);
@@ -320,7 +320,7 @@ close_so old after result live is answers =
       unclosed = λ some closed. answers.unclosed (λ none. some (ap (λ (bytes : List ℕ). bytes ++ []) none));
       shut = λ own. answers.shut;
       spares = λ can none. let spared = answers.spares can none in record { bytes = spared.bytes; written = spared.written; owed = spared.owed };
-      tied = record { owed = λ can. refl; life_is = λ can was. refl };
+      tied = record { owed = λ can. refl; life_is = λ can was had. refl };
       stands = λ stood. answers.stands;
       told = λ told. close_told old after result live is.kept answers (close_flat (flat_of old.buffer) (flat_of after) (done_reply result) after.short (says_fault (done_reply result)) (answers.told (rw is.kept refl) told));
       needs = λ gives. absurd (cc);

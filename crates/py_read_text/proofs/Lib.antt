@@ -18,3 +18,4 @@ pub mod Owing
 mod Laying
 pub mod Fronts
 pub mod Calling
+pub mod Living

@@ -168,7 +168,7 @@ answers old new asked waited short reply live can parts =
       unclosed = λ some closed. parts.reads.stays closed;
       shut = λ own. (never_closes asked old.buffer.life old.buffer new.buffer reply).0;
       spares = parts.reads.spares;
-      tied = record { owed = λ can. refl; life_is = λ can was. refl };
+      tied = record { owed = λ can. refl; life_is = λ can was had. refl };
       stands = parts.reads.stands;
       told = parts.told;
       needs = λ gives. parts.needs;

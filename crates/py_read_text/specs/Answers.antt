@@ -8,13 +8,13 @@ use Rattle.py_flat.specs.declared.life.Life.{Life}
 use Rattle.py_flat.specs.declared.life.Life.TheVariants as life
 use Rattle.py_flat.specs.Lines.{lf, cr}
 use Rattle.py_flat.specs.Calls as binary
-use Rattle.py_flat.specs.Calls.{FileReply, Text, Count, Done, NotReady, Refused}
+use Rattle.py_flat.specs.Calls.{FileReply, Text, Count, Done, NotReady, Unwritten, Refused}
 use Rattle.py_flat.specs.Causes.{rose, counted}
 use Rattle.py_flat.specs.ExactStep.{is_closed}
 use Rattle.py_codec.specs.Answers.{text_of}
 use Rattle.py_plain_text.specs.TextFile.{TextPlace, clean_at, TextSettings}
 use Rattle.py_plain_text.specs.TextStep.{asks_any, place_taking}
-use Rattle.py_plain_text.specs.TextCalls.{TextFileCall, Read, ReadLine, WriteText, Reconfigure, SetChunkSize, Flush, Close, OtherKind, changed}
+use Rattle.py_plain_text.specs.TextCalls.{TextFileCall, Read, ReadLine, WriteText, Reconfigure, SetChunkSize, Flush, Close, Detach, OtherKind, changed}
 use Rattle.py_plain_text.specs.TextRefusals.{refusal}
 use Rattle.py_plain_text.specs.TextAllowed.{TextFileStep}
 use Rattle.py_plain_text.specs.TextWriting.{written_bytes}
@@ -70,6 +70,7 @@ IsAnswerTo (Reconfigure changes) reply = reply ≡ Done
 IsAnswerTo (SetChunkSize size) reply = reply ≡ Done
 IsAnswerTo Flush Done = Unit {0}
 IsAnswerTo Close Done = Unit {0}
+IsAnswerTo Detach (Unwritten bytes place) = Unit {0}
 IsAnswerTo call (Refused fault.NoMemory) = Unit {0}
 IsAnswerTo call reply = ⊥
 
@@ -82,6 +83,7 @@ IsReplyTo writes (ReadLine limit) NotReady = Unit {0}
 IsReplyTo writes (WriteText text) (Refused (fault.WouldBlock taken)) = IsTrue writes
 IsReplyTo writes Flush (Refused (fault.WouldBlock taken)) = IsTrue writes
 IsReplyTo writes Close (Refused (fault.WouldBlock taken)) = IsTrue writes
+IsReplyTo writes Detach (Refused (fault.WouldBlock taken)) = IsTrue writes
 IsReplyTo writes call (Refused fault.RawFault) = Unit {0}
 IsReplyTo writes call reply = IsAnswerTo call reply
 
@@ -102,6 +104,7 @@ IsShort reply short = short ≡ false
 abbrev pub life_after : TextFileCall → FileReply → Life → Life
 life_after Close Done current = life.Closed
 life_after Close (Refused fault.RawFault) current = life.Closed
+life_after Detach (Unwritten bytes place) current = life.Detached
 life_after call (Refused fault.RawFault) current = life.Failed
 life_after call reply current = current
 
@@ -189,10 +192,11 @@ abbrev pub ClosesWithRaw : TextFileCall → Buffer → FileReply → Buffer → 
 ClosesWithRaw Close before reply after = parts_when_closed before binary.Close reply after ≡ false → after.owed.bytes ≡ [] → IsClosedWithRaw before → IsClosedWithRaw after
 ClosesWithRaw call before reply after = Unit {0}
 
--- a flush and a close need no memory but their raw's
+-- a flush, a close and a detaching need no memory but their raw's
 abbrev pub WantsMemory : TextFileCall → FileReply → Buffer → Type 0
 WantsMemory Flush (Refused fault.NoMemory) buffer = IsTrue buffer.raw.takes_memory
 WantsMemory Close (Refused fault.NoMemory) buffer = IsTrue buffer.raw.takes_memory
+WantsMemory Detach (Refused fault.NoMemory) buffer = IsTrue buffer.raw.takes_memory
 WantsMemory call reply buffer = Unit {0}
 
 -- a buffer that can't write and owes nothing: its raw's bytes stay, its writes answered for none, and nothing is owed after
@@ -206,10 +210,16 @@ pub record HidesNothing (before after : TextState) : Type 0 where
   pub empty : after.text.buffer.owed.bytes ≡ [] → after.text.buffer.raw_place ≡ after.text.buffer.place
   pub shows : WhereShown before.text.buffer (ShowsAll (file_of after) after.text.buffer.place)
 
--- over a buffer that doesn't write what the text itself owes stays as it was; and where its life is its buffer's, it stays so
-pub record KeepsTied (before after : TextState) : Type 0 where
+-- whether a call handed the buffer back
+abbrev pub hands_back : TextFileCall → FileReply → Bool
+hands_back Detach (Unwritten bytes place) = true
+hands_back call reply = false
+
+-- over a buffer that doesn't write what the text itself owes stays as it was; and where its life is its buffer's, it stays so, unless that
+-- was handed back
+pub record KeepsTied (before : TextState) (call : TextFileCall) (reply : FileReply) (after : TextState) : Type 0 where
   pub owed : before.text.buffer.can.writable ≡ false → after.text.owed ≡ before.text.owed
-  pub life_is : before.text.buffer.can.writable ≡ false → before.text.buffer.life ≡ before.text.life → after.text.buffer.life ≡ after.text.life
+  pub life_is : before.text.buffer.can.writable ≡ false → before.text.buffer.life ≡ before.text.life → hands_back call reply ≡ false → after.text.buffer.life ≡ after.text.life
 
 -- What a text that is written keeps, and what it passes on.
 
@@ -223,11 +233,12 @@ pub record IsPassedOn (state : TextState) : Type 0 where
   pub none : state.text.buffer.owed.bytes ≡ []
   pub holds : WhereShown state.text.buffer (state.text.buffer.raw.bytes ≡ (file_of state).bytes)
 
--- a done close of a live text passed all on that was owed, and a done flush, and an answered write of a text with a line end, with line
--- buffering
+-- a done close of a live text passed all on that was owed, and so did its detaching, a done flush, and an answered write of a text with a
+-- line end, with line buffering
 abbrev pub TextPasses : (before : TextState) → TextFileCall → FileReply → (after : TextState) → Type 0
 TextPasses before Flush Done after = IsPassedOn after
 TextPasses before Close Done after = before.text.life ≡ life.Live → IsPassedOn after
+TextPasses before Detach (Unwritten bytes place) after = before.text.life ≡ life.Live → IsPassedOn after
 TextPasses before (WriteText text) (Count count) after = before.text.settings.line_buffering ≡ true → has_line_end text ≡ true → IsPassedOn after
 TextPasses before call reply after = Unit {0}
 
@@ -274,11 +285,11 @@ pub record Answers (before : TextState) (call : TextFileCall) (reply : FileReply
   pub answer : refusal (file_of before) call ≡ None → IsReplyTo before.text.buffer.can.writable call reply
   -- where no count of the raw rose, a call that isn't refused is answered in full, or ran out of memory
   pub complete : refusal (file_of before) call ≡ None → rose before.text.buffer.raw.waits after.text.buffer.raw.waits ≡ false → rose before.text.buffer.raw.faults after.text.buffer.raw.faults ≡ false → IsComplete call reply after.short
-  -- a flush and a close need no memory but their raw's
+  -- a flush, a close and a detaching need no memory but their raw's
   pub wants : WantsMemory call reply before.text.buffer
   -- a done close closes the buffer and its raw
   pub closes : Closes before.text.life call before.text.buffer reply after.text.buffer
-  -- nothing else closes the raw, and no call hands it back
+  -- nothing else closes the raw, and no call hands the raw of the buffer back
   pub stays : may_close call reply ≡ false → KeepsOpen before.text.buffer after.text.buffer
   -- nor does a call close it that leaves bytes owed, whatever it answers
   pub unclosed : StaysWhileOwing before.text.buffer after.text
@@ -286,8 +297,8 @@ pub record Answers (before : TextState) (call : TextFileCall) (reply : FileReply
   pub shut : before.text.owed ≡ [] → ClosesWithRaw call before.text.buffer reply after.text.buffer
   -- a buffer that doesn't write leaves the raw's bytes, and owes nothing
   pub spares : before.text.buffer.can.writable ≡ false → before.text.buffer.owed ≡ nothing_owed before.text.buffer.place → SparesBytes before.text.buffer after.text.buffer
-  -- over a buffer that doesn't write what the text itself owes stays, and its life goes on to be its buffer's
-  pub tied : KeepsTied before after
+  -- over a buffer that doesn't write what the text itself owes stays, and its life goes on to be its buffer's, as long as it has one
+  pub tied : KeepsTied before call reply after
   -- the raw of a live buffer goes on to stand where the buffer counts
   pub stands : StandsWhileLive before.text.buffer → StandsWhileLive after.text.buffer
   -- where the raw tells, the call is a step of the model

@@ -19,16 +19,26 @@ fn push_line<S: LineSource>(alloc: Global, source: &mut S, out: &mut String) -> 
     Ok(out.push_str(line.as_str())?)
 }
 
-/// Lines of a text and of a stream of bytes, by one function.
-pub(crate) fn of_both(alloc: Global) -> Result<String> {
-    let mut out = String::from_str(alloc, "lines:")?;
+/// Appends the two lines of a text: of an LF after a CR, and of nothing.
+fn push_lines_of_text(alloc: Global, out: &mut String) -> Result<()> {
     let mut text = text_of(alloc, b"ann\r\n", &[], STRICT)?;
-    push_line(alloc, &mut text, &mut out)?; // "ann"
-    push_line(alloc, &mut text, &mut out)?; // nothing is left
+    push_line(alloc, &mut text, out)?; // "ann"
+    push_line(alloc, &mut text, out) // nothing is left
+}
+
+/// Appends the line of a stream of bytes.
+fn push_line_of_bytes(alloc: Global, out: &mut String) -> Result<()> {
     let flags = RawFlags::able(true, false, true);
     let bytes = b"ann\r\n".to_vec(alloc)?;
     let raw = MemRaw::new(bytes, flags, Vec::new(alloc), Vec::new(alloc));
     let mut reader = BufferedReader::new(alloc, raw, 8192)?;
-    push_line(alloc, &mut reader, &mut out)?; // four bytes: the CR is none of its end
+    push_line(alloc, &mut reader, out) // four bytes: the CR is none of its end
+}
+
+/// Lines of a text and of a stream of bytes, by one function.
+pub(crate) fn of_both(alloc: Global) -> Result<String> {
+    let mut out = String::from_str(alloc, "lines:")?;
+    push_lines_of_text(alloc, &mut out)?;
+    push_line_of_bytes(alloc, &mut out)?;
     Ok(out)
 }

@@ -18,13 +18,16 @@ pub(crate) const STRICT: Coder = Coder {
     errors: Handler::Strict,
 };
 
+/// A text over a buffered reader of bytes in memory.
+pub(crate) type OverBytes = TextIOWrapper<BufferedReader<MemRaw>>;
+
 /// A text over a buffered reader of some bytes, which come as a plan says.
 pub(crate) fn text_of(
     alloc: Global,
     bytes: &[u8],
     plan: &[Cut],
     coder: Coder,
-) -> Result<TextIOWrapper<BufferedReader<MemRaw>>> {
+) -> Result<OverBytes> {
     let flags = RawFlags::able(true, false, true); // it can be read and moved
     let bytes = bytes.to_vec(alloc)?;
     let raw = MemRaw::new(bytes, flags, plan.to_vec(alloc)?, Vec::new(alloc));
@@ -43,6 +46,11 @@ pub(crate) fn read_by_hand(alloc: Global) -> Result<String> {
         errors: Handler::Strict,
     };
     let mut text = TextIOWrapper::new(alloc, buffer, coder, TextSettings::default())?;
+    Ok(lent_read_by_hand(alloc, &mut text)?)
+}
+
+/// The readings of `read_by_hand`, of a text that is lent: a `?` drops nothing of it.
+fn lent_read_by_hand(alloc: Global, text: &mut OverBytes) -> Result<String, IoFault> {
     let line = text.readline(alloc, None)?; // Some("café\n"): CR LF is read as LF
     let rest = text.read(alloc, None)?; // Some("bar")
     Ok(format!(in alloc; "by hand: {:?} {:?}", characters(&line), characters(&rest))?)
@@ -50,10 +58,21 @@ pub(crate) fn read_by_hand(alloc: Global) -> Result<String> {
 
 /// A text over a stream in memory, by a coder that is found by names.
 pub(crate) fn read_by_names(alloc: Global) -> Result<String> {
-    let mut registry = CodecsRegistry::<NoSearch, NoHandler>::new(alloc)?;
-    let coder = find_coder(&mut registry, alloc, "UTF-16LE", "replace", true, true)?;
+    let coder = coder_by_names(alloc)?;
     let buffer = BytesIO::new(alloc, b"h\0i\0\x00\xD8".to_vec(alloc)?);
     let mut text = TextIOWrapper::new(alloc, buffer, coder, TextSettings::default())?;
+    Ok(lent_read_by_names(alloc, &mut text)?)
+}
+
+/// A coder that is found by names.
+fn coder_by_names(alloc: Global) -> Result<Coder> {
+    let mut registry = CodecsRegistry::<NoSearch, NoHandler>::new(alloc)?;
+    let coder = find_coder(&mut registry, alloc, "UTF-16LE", "replace", true, true)?;
+    Ok(coder)
+}
+
+/// The reading of `read_by_names`, of a text that is lent.
+fn lent_read_by_names(alloc: Global, text: &mut TextIOWrapper<BytesIO>) -> Result<String, IoFault> {
     let all = text.read(alloc, None)?; // Some("hi\u{FFFD}"): an unpaired surrogate is replaced
     Ok(format!(in alloc; "by names: {:?}", characters(&all))?)
 }

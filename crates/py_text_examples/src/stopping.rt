@@ -1,5 +1,5 @@
 //! What stops a reading, and what stands then.
-use crate::making::{STRICT, text_of};
+use crate::making::{OverBytes, STRICT, text_of};
 use crate::shown::characters;
 use anyhow::Result;
 use py_flat::IoFault;
@@ -10,6 +10,11 @@ use std::alloc::Global;
 /// A range that the handler refuses refuses no more than what would pass it.
 pub(crate) fn bad_bytes(alloc: Global) -> Result<String> {
     let mut text = text_of(alloc, b"ab\xFFc", &[], STRICT)?;
+    Ok(lent_bad_bytes(alloc, &mut text)?)
+}
+
+/// The readings of `bad_bytes`, of a text that is lent: a `?` drops nothing of it.
+fn lent_bad_bytes(alloc: Global, text: &mut OverBytes) -> Result<String, IoFault> {
     let bad = IoFault::UnicodeDecodeError { start: 2, end: 3 };
     let is_refused = text.read(alloc, None) == Err(bad); // place and life stay
     let before = text.read(alloc, Some(2))?; // Some("ab"): a shorter read
@@ -23,6 +28,11 @@ pub(crate) fn bad_bytes(alloc: Global) -> Result<String> {
 /// A text of which nothing was taken is read anew by other settings.
 pub(crate) fn other_settings(alloc: Global) -> Result<String> {
     let mut text = text_of(alloc, b"ab\xFF", &[], STRICT)?;
+    Ok(lent_other_settings(alloc, &mut text)?)
+}
+
+/// The calls of `other_settings`, of a text that is lent.
+fn lent_other_settings(alloc: Global, text: &mut OverBytes) -> Result<String, IoFault> {
     let is_refused = text.read(alloc, None).is_err(); // it knows "ab" now
     let mut changes = Reconfigure::default();
     changes.encoding = Some(Encoding::Latin1);
@@ -41,6 +51,11 @@ pub(crate) fn other_settings(alloc: Global) -> Result<String> {
 pub(crate) fn waits(alloc: Global) -> Result<String> {
     let plan = [Cut::Take(2), Cut::Wait, Cut::Wait];
     let mut text = text_of(alloc, b"abc\n", &plan, STRICT)?;
+    Ok(lent_waits(alloc, &mut text)?)
+}
+
+/// The readings of `waits`, of a text that is lent.
+fn lent_waits(alloc: Global, text: &mut OverBytes) -> Result<String, IoFault> {
     let some = text.readline(alloc, None)?; // Some("ab"), and `short` says that the line goes on
     let is_short = text.short();
     let none = text.readline(alloc, None)?; // None: nothing came, which isn't the end
@@ -57,20 +72,34 @@ pub(crate) fn waits(alloc: Global) -> Result<String> {
 pub(crate) fn fails(alloc: Global) -> Result<String> {
     let plan = [Cut::Take(2), Cut::Break(0)];
     let mut text = text_of(alloc, b"abc\n", &plan, STRICT)?;
+    let shown = lent_fails(alloc, &mut text);
+    let at = place_of(&mut text)?;
+    let shown = shown?;
+    Ok(format!(in alloc; "fails: {} {at}", shown.as_str())?)
+}
+
+/// The byte of the place of a text, which is detached; 0 where it has none.
+fn place_of(text: &mut OverBytes) -> Result<u64, IoFault> {
+    let parts = text.detach()?; // at once: the buffer, and the byte of the text place
+    Ok(parts.place.unwrap_or(0))
+}
+
+/// The readings of `fails`, of a text that is lent.
+fn lent_fails(alloc: Global, text: &mut OverBytes) -> Result<String, IoFault> {
     let first = text.read(alloc, Some(1))?; // Some("a")
     let is_fault = text.readline(alloc, None) == Err(IoFault::RawFault);
     let is_failed = text.readline(alloc, None) == Err(IoFault::Failed); // from then on
-    let parts = text.into_parts(); // the buffer, and the byte of the text place
-    let at = parts.place.unwrap_or(0);
-    Ok(format!(in alloc;
-        "fails: {:?} {is_fault} {is_failed} {at}",
-        characters(&first)
-    )?)
+    Ok(format!(in alloc; "{:?} {is_fault} {is_failed}", characters(&first))?)
 }
 
 /// A text is closed, and a closed one may be closed again.
 pub(crate) fn closed(alloc: Global) -> Result<String> {
     let mut text = text_of(alloc, b"abc\n", &[], STRICT)?;
+    Ok(lent_closed(alloc, &mut text)?)
+}
+
+/// The calls of `closed`, of a text that is lent.
+fn lent_closed(alloc: Global, text: &mut OverBytes) -> Result<String, IoFault> {
     text.close()?;
     text.close()?; // calls no raw
     let is_refused = text.read(alloc, None) == Err(IoFault::Closed);

@@ -1,6 +1,8 @@
 //! Whatever text is written to.
 use crate::making::STRICT;
+use crate::writing::bytes_of;
 use anyhow::Result;
+use py_flat::IoFault;
 use py_memio::BytesIO;
 use py_source_sink::{Failed, MemSink};
 use py_text::TextSettings;
@@ -30,16 +32,21 @@ pub(crate) fn to_a_sink(alloc: Global) -> Result<String> {
 }
 
 /// A greeting is written to a text by its own `write`.
-fn greet_in(alloc: Global, text: &mut TextIOWrapper<BytesIO>) -> Result<()> {
-    greet(alloc, &mut PyWriter(text), "é")?;
-    Ok(text.flush()?)
+fn greet_in(alloc: Global, text: &mut TextIOWrapper<BytesIO>) -> Result<(), IoFault> {
+    greet(alloc, &mut PyWriter(text), "é")
 }
 
 /// A greeting is written to a text over a stream.
 pub(crate) fn to_a_text(alloc: Global) -> Result<String> {
     let buffer = BytesIO::new(alloc, Vec::new(alloc));
     let mut text = TextIOWrapper::new(alloc, buffer, STRICT, TextSettings::default())?;
-    greet_in(alloc, &mut text)?;
-    let bytes = text.into_parts().buffer.getvalue(alloc)?;
+    let greeted = greet_in(alloc, &mut text);
+    let bytes = bytes_of(alloc, &mut text);
+    greeted?;
+    shown(alloc, bytes?)
+}
+
+/// The bytes of a text that was greeted.
+fn shown(alloc: Global, bytes: Vec<u8>) -> Result<String> {
     Ok(format!(in alloc; "to a text: {:?}", bytes.as_slice())?)
 }

@@ -8,7 +8,7 @@ use py_raw::RawFlags;
 use py_raw_memory::{Cut, MemRaw};
 use py_text::{Newlines, TextSettings};
 use py_textio::TextIOWrapper;
-use std::alloc::Global;
+use std::alloc::{AllocError, Global};
 
 /// A text is written in lines that end at CR LF.
 pub(crate) fn written(alloc: Global) -> Result<String> {
@@ -16,28 +16,80 @@ pub(crate) fn written(alloc: Global) -> Result<String> {
     settings.newline = Newlines::Crlf;
     let buffer = BytesIO::new(alloc, Vec::new(alloc));
     let mut text = TextIOWrapper::new(alloc, buffer, STRICT, settings)?;
+    let count = lent_written(alloc, &mut text);
+    let bytes = bytes_of(alloc, &mut text)?;
+    Ok(shown_bytes(alloc, "written:", count?, &bytes)?)
+}
+
+/// The writing of `written`, to a text that is lent: a `?` drops nothing of it.
+fn lent_written(alloc: Global, text: &mut TextIOWrapper<BytesIO>) -> Result<usize, IoFault> {
     let count = text.write(alloc, "é\nb")?; // 3 characters; LF is written as CR LF
-    text.flush()?; // until then the text may keep the bytes
-    let buffer = text.into_parts().buffer;
+    Ok(count)
+}
+
+/// The bytes under a text, which is detached.
+pub(crate) fn bytes_of(
+    alloc: Global,
+    text: &mut TextIOWrapper<BytesIO>,
+) -> Result<Vec<u8>, IoFault> {
+    let buffer = text.detach()?.buffer; // until then, or a flush, the text may keep the bytes
     let bytes = buffer.getvalue(alloc)?; // C3 A9 0D 0A 62
-    Ok(format!(in alloc; "written: {count} {:?}", bytes.as_slice())?)
+    Ok(bytes)
+}
+
+/// A count and some bytes, behind a word.
+fn shown_bytes(
+    alloc: Global,
+    word: &str,
+    count: usize,
+    bytes: &[u8],
+) -> Result<String, AllocError> {
+    format!(in alloc; "{word} {count} {bytes:?}")
 }
 
 /// With line buffering a line is passed on at once; what a wait held up is passed on later.
 pub(crate) fn by_lines(alloc: Global) -> Result<String> {
+    let mut text = text_by_lines(alloc)?;
+    let written = lent_by_lines(alloc, &mut text);
+    let bytes = raw_bytes(alloc, &mut text)?;
+    let (is_taken, count) = written?;
+    let word = if is_taken {
+        "by lines: true"
+    } else {
+        "by lines: false"
+    };
+    Ok(shown_bytes(alloc, word, count, &bytes)?)
+}
+
+/// A text with line buffering, over a writer whose raw waits once.
+fn text_by_lines(alloc: Global) -> Result<TextIOWrapper<BufferedWriter<MemRaw>>> {
     let flags = RawFlags::able(false, true, true); // it can be written and moved
     let plan = [Cut::Wait].to_vec(alloc)?;
     let raw = MemRaw::new(Vec::new(alloc), flags, plan, Vec::new(alloc));
     let buffer = BufferedWriter::new(alloc, raw, 8192)?;
     let mut settings = TextSettings::default();
     settings.line_buffering = true;
-    let mut text = TextIOWrapper::new(alloc, buffer, STRICT, settings)?;
+    Ok(TextIOWrapper::new(alloc, buffer, STRICT, settings)?)
+}
+
+/// The writing of `by_lines`, to a text that is lent.
+fn lent_by_lines(
+    alloc: Global,
+    text: &mut TextIOWrapper<BufferedWriter<MemRaw>>,
+) -> Result<(bool, usize), IoFault> {
     let is_taken = text.write(alloc, "a\n") == Err(IoFault::WouldBlock { taken: 2 }); // all of it
     text.flush()?; // the raw has "a\n" now
     let count = text.write(alloc, "b\n")?; // 2, and the raw has it at once
-    let shown = match text.into_parts().buffer.into_parts() {
-        Some(parts) => format!(in alloc; "{:?}", parts.raw.into_bytes().as_slice())?,
-        None => String::new(alloc),
-    };
-    Ok(format!(in alloc; "by lines: {is_taken} {count} {}", shown.as_str())?)
+    Ok((is_taken, count))
+}
+
+/// The bytes of the raw under a text, which is detached.
+fn raw_bytes(
+    alloc: Global,
+    text: &mut TextIOWrapper<BufferedWriter<MemRaw>>,
+) -> Result<Vec<u8>, IoFault> {
+    match text.detach()?.buffer.into_parts() {
+        Some(parts) => Ok(parts.raw.into_bytes()),
+        None => Ok(Vec::new(alloc)),
+    }
 }

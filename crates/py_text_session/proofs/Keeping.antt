@@ -1,5 +1,5 @@
 -- What holds of a text session goes on to hold, whatever a call answers.
-use Rattle.std.proofs.Common.{◌≡◌, ◌≢◌, inl, inr, Bool, true, false, Some, refl, sym, ap, ◌∙◌, subst}
+use Rattle.std.proofs.Common.{◌≡◌, ◌≢◌, Bool, true, false, Some, refl, sym, ap, ◌∙◌, subst}
 use Rattle.py_flat.specs.declared.fault.IoFault.TheVariants as fault
 use Rattle.py_flat.specs.declared.life.Life.{Life}
 use Rattle.py_flat.specs.declared.life.Life.TheVariants as life
@@ -8,11 +8,12 @@ use Rattle.py_flat.specs.ExactStep.{is_closed}
 use Rattle.py_flat.specs.FlatFile.{Abilities, Buffering}
 use Rattle.py_flat.specs.Refusals.{is_unbuffered}
 use Rattle.py_plain_text.specs.TextFile.{TextFile}
-use Rattle.py_plain_text.specs.TextCalls.{TextFileCall, Read, ReadLine, WriteText, Reconfigure, SetChunkSize, Flush, Close, OtherKind}
+use Rattle.py_plain_text.specs.TextCalls.{TextFileCall, Read, ReadLine, WriteText, Reconfigure, SetChunkSize, Flush, Close, Detach, OtherKind, is_detach}
 use Rattle.py_plain_text.specs.TextRefusals.{refusal}
 use Rattle.py_stream.specs.Buffer.{Buffer, IsClosedWithRaw}
 use Rattle.py_read_text.specs.TextState.{TextState, file_of}
-use Rattle.py_read_text.specs.Answers.{Answers, LifeMoves, life_after}
+use Rattle.py_read_text.specs.Answers.{Answers}
+use Rattle.py_read_text.proofs.Living.{lives_on, hands_none}
 use Rattle.py_text_session.specs.Session.{OwesNothing, IsOpen, IsTextSession}
 
 -- the calls of a session
@@ -60,16 +61,9 @@ stayed before after same is = subst IsTextSession (sym same) (record { kept = is
 
 -- A live one.
 
-after_call : (call : TextFileCall) (reply : FileReply) (current : Life) → current ≢ life.Detached → life_after call reply current ≢ life.Detached
-after_call Close Done current is = λ gone. absurd (cc)
-after_call Close (Refused fault.RawFault) current is = λ gone. absurd (cc)
-after_call call (Refused fault.RawFault) current is = λ gone. absurd (cc)
-after_call call reply current is = is
-
-kept_so : (writes : Bool) (call : TextFileCall) (reply : FileReply) (before after : Life) → LifeMoves writes call reply before after → before ≢ life.Detached → after ≢ life.Detached
-kept_so writes call (Refused fault.NoMemory) before after (inl same) is = λ gone. is (sym same ∙ gone)
-kept_so writes call (Refused fault.NoMemory) before after (inr failed) is = λ gone. let never : life.Failed ≡ life.Detached = sym failed.1 ∙ gone in absurd (cc)
-kept_so writes call reply before after moves is = λ gone. after_call call reply before is (sym moves ∙ gone)
+no_detach : (call : TextFileCall) → is_made call ≡ true → is_detach call ≡ false
+no_detach Detach made = absurd (cc)
+no_detach call made = refl
 
 attached_so : (before : TextState) (call : TextFileCall) (reply : FileReply) (after : TextState) → before.text.life ≡ life.Live → IsTextSession before → Answers before call reply after → after.text.buffer.life ≢ life.Detached
 attached_so before Close Done after live is answers = λ gone. let never : life.Closed ≡ life.Detached = sym (answers.closes live).0 ∙ gone in absurd (cc)
@@ -88,24 +82,24 @@ open_by before call reply after live was answers other =
     let raw : after.text.buffer.raw.closed ≡ false = still.0 ∙ was.raw in
     record { raw = raw; buffer = sym still.1 ∙ raw }
 
-owes_none : (before : TextState) (call : TextFileCall) (reply : FileReply) (after : TextState) → IsTextSession before → Answers before call reply after → after.text.buffer.can.writable ≡ false → OwesNothing after
-owes_none before call reply after is answers can =
+owes_none : (before : TextState) (call : TextFileCall) (reply : FileReply) (after : TextState) → is_made call ≡ true → IsTextSession before → Answers before call reply after → after.text.buffer.can.writable ≡ false → OwesNothing after
+owes_none before call reply after made is answers can =
     let was : before.text.buffer.can.writable ≡ false = sym (ap (λ (own : Abilities). own.writable) answers.keeps.can) ∙ can in
     let none = is.unwritten was in
     record {
       none = (answers.spares was none.none).owed;
       own = answers.tied.owed was ∙ none.own;
-      life_is = answers.tied.life_is was none.life_is;
+      life_is = answers.tied.life_is was none.life_is (hands_none call reply (no_detach call made));
     }
 
-live_on : (before : TextState) (call : TextFileCall) (reply : FileReply) (after : TextState) → before.text.life ≡ life.Live → IsTextSession before → Answers before call reply after → IsTextSession after
-live_on before call reply after live is answers = record {
-  kept = kept_so before.text.buffer.can.writable call reply before.text.life after.text.life answers.moves.life_is is.kept;
+live_on : (before : TextState) (call : TextFileCall) (reply : FileReply) (after : TextState) → is_made call ≡ true → before.text.life ≡ life.Live → IsTextSession before → Answers before call reply after → IsTextSession after
+live_on before call reply after made live is answers = record {
+  kept = lives_on before call reply after (no_detach call made) is.kept answers;
   attached = attached_so before call reply after live is answers;
   buffered = ap (λ (buffering : Buffering). is_unbuffered buffering) answers.keeps.buffering ∙ is.buffered;
   stands = answers.stands is.stands;
   joined = answers.joined;
-  unwritten = owes_none before call reply after is answers;
+  unwritten = owes_none before call reply after made is answers;
   is_open = open_by before call reply after live (is.is_open (λ closed. let never : life.Live ≡ life.Closed = sym live ∙ closed in absurd (cc))) answers;
 }
 
@@ -113,7 +107,7 @@ pub session_on : (before : TextState) (call : TextFileCall) (reply : FileReply) 
 session_on before call reply after made is answers = by_life before.text.life refl
   where
     by_life : (current : Life) → before.text.life ≡ current → IsTextSession after
-    by_life life.Live now = live_on before call reply after now is answers
+    by_life life.Live now = live_on before call reply after made now is answers
     by_life life.Failed now = stayed before after (answers.refused fault.Failed (failed_refuses (file_of before) call made now)).same is
     by_life life.Closed now = stayed before after (closed_stays before call reply after made now answers) is
     by_life life.Detached now = absurd (is.kept now)

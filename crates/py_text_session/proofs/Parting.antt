@@ -10,11 +10,19 @@ use Rattle.py_stream.specs.Writing.{OwesUpTo}
 use Rattle.py_stream.specs.Buffer.{Buffer, size_shown, buffer_of}
 use Rattle.py_stream.specs.Handing.{PartsOutcome}
 use Rattle.py_read_text.specs.Owing.{all_owed, IsJoined, JoinsAt}
+use Rattle.py_read_text.specs.TextState.{TextState}
+use Rattle.py_textio.specs.declared.text_detached.TextDetached.{TextDetached}
+use Rattle.py_textio.specs.Handing as text
 use Rattle.py_text_session.specs.Handing.{place_handed}
 
 pub has_parts : {R : Type 0} (shows : R → Raw) (stream : Stream) (result : Option (Detached R)) → PartsOutcome shows stream result → stream.life ≢ life.Detached → IsSome result
 has_parts shows stream (Some detached) outcome attached = grind arith
 has_parts shows stream None outcome attached = absurd (attached outcome)
+
+-- a text that isn't detached hands its buffer back
+pub has_buffer : {B : Type 0} (shows : B → Buffer) (state : TextState) (result : Option (TextDetached B)) → text.PartsOutcome shows state result → state.text.life ≢ life.Detached → IsSome result
+has_buffer shows state (Some detached) outcome attached = grind arith
+has_buffer shows state None outcome attached = absurd (attached outcome)
 
 -- the size that a stream shows is that of its buffer
 shown_size : (size : Option ℕ) → unwrap_or (size_shown (buffering_of size)) 0 ≡ unwrap_or size 0

@@ -308,7 +308,7 @@ impl<R: RawStream> TextSession<R> {
             buffer,
             unwritten: own,
             place,
-        } = text.into_parts();
+        } = text.into_parts().unwrap();
         let Detached {
             raw,
             unwritten,

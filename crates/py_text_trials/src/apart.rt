@@ -35,6 +35,18 @@ pub trait Under: BufferedStream + Drop {
     fn take_apart(self, alloc: Global) -> Result<Held, AllocError>;
 }
 
+impl Held {
+    /// What is left of a stream that was handed back before.
+    fn nothing(alloc: Global) -> Held {
+        Held {
+            raw: None,
+            is_closed: false,
+            owed: Vec::new(alloc),
+            owed_at: None,
+        }
+    }
+}
+
 /// What a buffered stream hands back.
 fn handed_back(alloc: Global, parts: Option<Detached<MemRaw>>) -> Held {
     match parts {
@@ -44,12 +56,7 @@ fn handed_back(alloc: Global, parts: Option<Detached<MemRaw>>) -> Held {
             owed: parts.unwritten,
             owed_at: parts.place,
         },
-        None => Held {
-            raw: None,
-            is_closed: false,
-            owed: Vec::new(alloc),
-            owed_at: None,
-        },
+        None => Held::nothing(alloc),
     }
 }
 
@@ -87,16 +94,31 @@ impl Under for BytesIO {
     }
 }
 
-/// Takes a text apart, and the stream under it.
+/// Takes a text apart, and the stream under it; of a detached one nothing is left.
 pub fn take_text_apart<B: Under>(
     alloc: Global,
     text: TextIOWrapper<B>,
+) -> Result<Apart, AllocError> {
+    match text.into_parts() {
+        Some(parts) => take_parts_apart(alloc, parts),
+        None => Ok(Apart {
+            held: Held::nothing(alloc),
+            unwritten: Vec::new(alloc),
+            at: None,
+        }),
+    }
+}
+
+/// Takes the stream apart that a text handed back.
+pub fn take_parts_apart<B: Under>(
+    alloc: Global,
+    parts: TextDetached<B>,
 ) -> Result<Apart, AllocError> {
     let TextDetached {
         buffer,
         unwritten,
         place,
-    } = text.into_parts();
+    } = parts;
     Ok(Apart {
         held: buffer.take_apart(alloc)?,
         unwritten,

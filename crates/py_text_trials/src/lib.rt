@@ -11,7 +11,7 @@ mod shown;
 mod tried;
 mod words;
 
-pub use apart::{Apart, Held, Under, take_text_apart};
+pub use apart::{Apart, Held, Under, take_parts_apart, take_text_apart};
 pub use asking::Asking;
 pub use beside::{Came, came_of};
 pub use raws::{failing, raw_of, steps};

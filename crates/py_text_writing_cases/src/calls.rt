@@ -1,9 +1,9 @@
 //! The calls of a case.
+use crate::shown::push_apart;
 use anyhow::{Result, anyhow};
 use py_flat::IoFault;
-use py_stream::BufferedStream;
-use py_text_trials::{push_answer, push_fault, split};
-use py_textio::TextIOWrapper;
+use py_text_trials::{Under, push_answer, push_fault, split, take_parts_apart};
+use py_textio::{TextDetached, TextIOWrapper};
 use std::alloc::{AllocError, Global};
 
 /// A text of a word: `\n` is LF, `\r` CR, and `_` a space.
@@ -50,14 +50,30 @@ fn push_done(
     }
 }
 
+/// Appends what a `detach` handed over, and what that comes to.
+fn push_detached<B: Under>(
+    alloc: Global,
+    out: &mut String,
+    answer: Result<TextDetached<B>, IoFault>,
+) -> Result<(), AllocError> {
+    match answer {
+        Ok(parts) => {
+            let apart = take_parts_apart(alloc, parts)?;
+            out.push_str("detached")?;
+            push_apart(alloc, out, &apart)
+        }
+        Err(fault) => push_fault(alloc, out, fault),
+    }
+}
+
 /// The size of a call: none without a number.
 fn size_of(word: &str) -> Option<usize> {
     word.parse().ok()
 }
 
-/// Makes a call: `wTEXT` writes a text, `f` flushes, `c` closes, `r` reads all, `r2` two characters, `l` a line, `l2` at most two
-/// characters of one, `k2` sets chunks of two bytes.
-fn call<B: BufferedStream>(
+/// Makes a call: `wTEXT` writes a text, `f` flushes, `c` closes, `d` detaches, `r` reads all, `r2` two characters, `l` a line, `l2` at most
+/// two characters of one, `k2` sets chunks of two bytes.
+fn call<B: Under>(
     alloc: Global,
     text: &mut TextIOWrapper<B>,
     word: &str,
@@ -73,6 +89,7 @@ fn call<B: BufferedStream>(
         }
         Some('f') => push_done(alloc, out, "flushed", text.flush())?,
         Some('c') => push_done(alloc, out, "closed", text.close())?,
+        Some('d') => push_detached(alloc, out, text.detach())?,
         Some('r') => push_answer(alloc, out, text.read(alloc, size_of(rest)), text.short())?,
         Some('l') => push_answer(
             alloc,
@@ -90,7 +107,7 @@ fn call<B: BufferedStream>(
 }
 
 /// Makes calls on a text, one after the other.
-pub(crate) fn calls<B: BufferedStream>(
+pub(crate) fn calls<B: Under>(
     alloc: Global,
     text: &mut TextIOWrapper<B>,
     words: &str,

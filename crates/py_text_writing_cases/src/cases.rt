@@ -4,6 +4,7 @@ ghost use Rattle.py_raw_memory.specs.MemRaw.{shown as raw_shown};
 ghost use Rattle.py_stream.specs.Opening.{StandsAtStart};
 
 use crate::calls::calls;
+use crate::shown::push_apart;
 use anyhow::{Result, anyhow};
 use py_buffered::{BufferedRandom, BufferedReader, BufferedWriter};
 use py_flat::{IoFault, Life};
@@ -61,27 +62,6 @@ fn parse(line: &str) -> Result<Case<'_>> {
     })
 }
 
-fn push_bytes(alloc: Global, out: &mut String, bytes: &[u8]) -> Result<(), AllocError> {
-    if bytes.is_empty() {
-        return out.push('-');
-    }
-    out.push_str(hex::encode(alloc, bytes)?.as_str())
-}
-
-/// Appends bytes that are owed, and where they begin.
-fn push_owed(
-    alloc: Global,
-    out: &mut String,
-    bytes: &[u8],
-    at: Option<u64>,
-) -> Result<(), AllocError> {
-    push_bytes(alloc, out, bytes)?;
-    match at {
-        Some(at) if !bytes.is_empty() => out.push_str(format!(in alloc; " at {at}")?.as_str()),
-        _ => Ok(()),
-    }
-}
-
 fn life_name(life: Life) -> &'static str {
     match life {
         Life::Live => "live",
@@ -91,22 +71,11 @@ fn life_name(life: Life) -> &'static str {
     }
 }
 
-/// Appends what stands in the end: the life of the text, the bytes of the raw, what the buffer owes, and what the text owes.
+/// Appends what stands in the end: the life of the text, and what it comes to.
 fn push_end(alloc: Global, out: &mut String, life: Life, apart: &Apart) -> Result<(), AllocError> {
     out.push_str(if out.is_empty() { "" } else { "; " })?;
     out.push_str(life_name(life))?;
-    let Some(raw) = &apart.held.raw else {
-        return Ok(());
-    };
-    out.push_str(", raw ")?;
-    push_bytes(alloc, out, raw)?;
-    if apart.held.is_closed {
-        out.push_str(" closed")?;
-    }
-    out.push_str(", buffer ")?;
-    push_owed(alloc, out, &apart.held.owed, apart.held.owed_at)?;
-    out.push_str(", text ")?;
-    push_owed(alloc, out, &apart.unwritten, apart.at)
+    push_apart(alloc, out, apart)
 }
 
 /// Makes the calls on a text, and answers what came and what stands in the end.

@@ -11,6 +11,7 @@ mod cases;
 mod flat;
 mod pieces;
 mod runs;
+mod shown;
 mod sweep;
 mod writing;
 

@@ -175,7 +175,7 @@ set_answers view changes live accepted joined = record {
   wants = tt;
   shut = λ own. tt;
   spares = λ can none. record { bytes = λ told. refl; written = λ told. refl; owed = none };
-  tied = record { owed = λ can. refl; life_is = λ can was. was };
+  tied = record { owed = λ can. refl; life_is = λ can was had. was };
   stands = λ stood. stood;
   told = λ told. set_step view changes live accepted;
   needs = λ gives. absurd (cc);

@@ -9,3 +9,5 @@ mod Writing
 mod Sizes
 mod Ended
 mod Rooms
+mod Detaching
+mod Detached

@@ -92,7 +92,7 @@ none_answers (Characters size) old was live can none joined = record {
   wants = tt;
   shut = λ own. tt;
   spares = λ can none. record { bytes = λ told. refl; written = λ told. refl; owed = none };
-  tied = record { owed = λ can. refl; life_is = λ can was. was };
+  tied = record { owed = λ can. refl; life_is = λ can was had. was };
   stands = λ stood. stood;
   told = λ told. none_step (file_now old) (Characters size) live can none;
   needs = λ gives told. inl (omega arith);
@@ -122,7 +122,7 @@ none_answers (Line limit) old was live can none joined = record {
   wants = tt;
   shut = λ own. tt;
   spares = λ can none. record { bytes = λ told. refl; written = λ told. refl; owed = none };
-  tied = record { owed = λ can. refl; life_is = λ can was. was };
+  tied = record { owed = λ can. refl; life_is = λ can was had. was };
   stands = λ stood. stood;
   told = λ told. none_step (file_now old) (Line limit) live can none;
   needs = λ gives told. inl (omega arith);

@@ -11,7 +11,7 @@ use Rattle.py_flat.specs.AllowedStep.{settled}
 use Rattle.py_flat.proofs.Settling.{blames}
 use Rattle.py_plain_text.specs.TextFile.{TextFile, TextPlace, TextSettings}
 use Rattle.py_plain_text.specs.TextOver.{TextOver}
-use Rattle.py_plain_text.specs.TextCalls.{TextFileCall, Read, ReadLine, WriteText, Reconfigure, SetChunkSize, Flush, Close, OtherKind}
+use Rattle.py_plain_text.specs.TextCalls.{TextFileCall, Read, ReadLine, WriteText, Reconfigure, SetChunkSize, Flush, Close, Detach, OtherKind}
 use Rattle.py_plain_text.specs.TextRefusals.{refusal}
 use Rattle.py_plain_text.specs.TextExact.{with_chunk_size}
 use Rattle.py_plain_text.specs.TextAllowed.{SettledBy, TextFileStep}
@@ -77,6 +77,8 @@ wants_refused Flush fault.NoMemory buffer own = absurd (cc)
 wants_refused Flush why buffer own = tt
 wants_refused Close fault.NoMemory buffer own = absurd (cc)
 wants_refused Close why buffer own = tt
+wants_refused Detach fault.NoMemory buffer own = absurd (cc)
+wants_refused Detach why buffer own = tt
 wants_refused call why buffer own = tt
 
 shut_refused : (call : TextFileCall) (why : IoFault) (buffer : Buffer) → ClosesWithRaw call buffer (Refused why) buffer
@@ -121,7 +123,7 @@ refused text was call why is own once joined =
       wants = wants_refused call why text.text.buffer own;
       shut = λ none. shut_refused call why text.text.buffer;
       spares = λ can none. record { bytes = λ told. refl; written = λ told. refl; owed = none };
-      tied = record { owed = λ can. refl; life_is = λ can was. was };
+      tied = record { owed = λ can. refl; life_is = λ can was had. was };
       stands = λ stood. stood;
       told = λ told. subst (λ (faulted : Bool). TextFileStep (file_now text) call (Refused why) false faulted (file_now text)) (sym quiet) (step_refused (file_now text) call why is);
       needs = λ gives told. inl (omega arith);
@@ -246,7 +248,7 @@ closed_again now text was same is joined =
       wants = tt;
       shut = λ own whole none closed. closed;
       spares = λ can none. record { bytes = λ told. refl; written = λ told. refl; owed = none };
-      tied = record { owed = λ can. refl; life_is = λ can was. was };
+      tied = record { owed = λ can. refl; life_is = λ can was had. was };
       stands = λ stood. stood;
       told = λ told. closed_step (file_now text) is;
       needs = λ gives. absurd (cc);
@@ -318,7 +320,7 @@ chunks_so now text new was size same live some joined is =
       wants = tt;
       shut = λ own. tt;
       spares = λ can none. record { bytes = λ told. refl; written = λ told. refl; owed = none };
-      tied = record { owed = λ can. refl; life_is = λ can was. was };
+      tied = record { owed = λ can. refl; life_is = λ can was had. was };
       stands = λ stood. stood;
       told = λ told. chunk_step (file_now text) size live some;
       needs = λ gives. absurd (cc);

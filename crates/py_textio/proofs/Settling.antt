@@ -463,25 +463,25 @@ went_on : (old new : WrittenView) → old.pending ≢ [] → place_now new ≡ p
 went_on old new some place none = omega (arith, own_from_is old, ap (λ (own : TextPlace). own.at) place, ap (λ (own : TextPlace). own.at) (behind_so (place_of old.text) old.pending), ap length none, some_long old.pending some)
 
 -- what was passed on of a text whose buffer took what it owed, or that owed nothing and has nothing to flush
-pub passed_behind : (old mid new : WrittenView) (count : ℕ) (flushes ends : Bool) (result : Result (Unit {0}) IoFault) → IsJoined (over_of old) → IsJoined (over_of mid) → HandsOn old false false mid → PassOutcome mid count flushes result new → (old.text.settings.line_buffering ≡ true → ends ≡ true → flushes ≡ true) → (flushes ≡ true → old.pending ≢ []) → HandOutcome old count ends result new
-passed_behind old mid new count flushes ends (Ok done) was is hands outcome so some = (hands_on old mid new false false was is hands outcome.0, outcome.1, outcome.2, λ lines line. outcome.3 (so lines line))
-passed_behind old mid new count flushes ends (Err (fault.WouldBlock taken)) was is hands outcome so some = (hands_on old mid new true false was is hands outcome.0, outcome.1, outcome.2, outcome.3)
-passed_behind old mid new count flushes ends (Err fault.RawFault) was is hands outcome so some = (hands_on old mid new false true was is hands outcome.0, outcome.1)
-passed_behind old mid new count flushes ends (Err fault.NoMemory) was is hands outcome so some =
+pub passed_behind : (old mid new : WrittenView) (count : ℕ) (flushes : Bool) (result : Result (Unit {0}) IoFault) → IsJoined (over_of old) → IsJoined (over_of mid) → HandsOn old false false mid → PassOutcome mid count flushes result new → (flushes ≡ true → old.pending ≢ []) → HandOutcome old count flushes result new
+passed_behind old mid new count flushes (Ok done) was is hands outcome some = (hands_on old mid new false false was is hands outcome.0, outcome.1, outcome.2, outcome.3)
+passed_behind old mid new count flushes (Err (fault.WouldBlock taken)) was is hands outcome some = (hands_on old mid new true false was is hands outcome.0, outcome.1, outcome.2, outcome.3)
+passed_behind old mid new count flushes (Err fault.RawFault) was is hands outcome some = (hands_on old mid new false true was is hands outcome.0, outcome.1)
+passed_behind old mid new count flushes (Err fault.NoMemory) was is hands outcome some =
     let on = hands_on old mid new false false was is hands outcome.0 in
     inl (on, outcome.1, some outcome.2, inl (went_on old new (some outcome.2) on.place outcome.3))
-passed_behind old mid new count flushes ends (Err other) was is hands outcome so some = absurd outcome
+passed_behind old mid new count flushes (Err other) was is hands outcome some = absurd outcome
 
 -- what is owed couldn't be handed on, and the text isn't as it was
-pub handed_not : (old new : WrittenView) (count : ℕ) (ends : Bool) (why : IoFault) → old.pending ≢ [] → SettleOutcome old (Err why) new → (why ≡ fault.NoMemory → new.life ≢ life.Live) → HandOutcome old count ends (Err (with_taken why count)) new
-handed_not old new count ends (fault.WouldBlock taken) some outcome failed = (outcome.0, outcome.2, refl, record { full = λ left. outcome.4; some = λ gives own. absurd (outcome.1 own) })
-handed_not old new count ends fault.RawFault some outcome failed = (outcome.0, outcome.1)
-handed_not old new count ends fault.NoMemory some outcome failed = by_life outcome.2
+pub handed_not : (old new : WrittenView) (count : ℕ) (flushes : Bool) (why : IoFault) → old.pending ≢ [] → SettleOutcome old (Err why) new → (why ≡ fault.NoMemory → new.life ≢ life.Live) → HandOutcome old count flushes (Err (with_taken why count)) new
+handed_not old new count flushes (fault.WouldBlock taken) some outcome failed = (outcome.0, outcome.2, refl, record { full = λ left. outcome.4; some = λ gives own. absurd (outcome.1 own) })
+handed_not old new count flushes fault.RawFault some outcome failed = (outcome.0, outcome.1)
+handed_not old new count flushes fault.NoMemory some outcome failed = by_life outcome.2
   where
-    by_life : TakesNothing old new ⊎ ((new.life ≡ life.Failed) × (old.text.buffer.can.writable ≡ true) × GaveOwn (over_of old) (over_of new)) → HandOutcome old count ends (Err fault.NoMemory) new
+    by_life : TakesNothing old new ⊎ ((new.life ≡ life.Failed) × (old.text.buffer.can.writable ≡ true) × GaveOwn (over_of old) (over_of new)) → HandOutcome old count flushes (Err fault.NoMemory) new
     by_life (inl nothing) = absurd (failed refl nothing.lives)
     by_life (inr gave) = inl (outcome.0, gave.0, some, gave.2)
-handed_not old new count ends other some outcome failed = absurd outcome
+handed_not old new count flushes other some outcome failed = absurd outcome
 
 -- the buffer took nothing for want of memory, and the last bytes are let go of
 pub lets_go : (old mid new : WrittenView) (count room : ℕ) → SettleOutcome old (Err fault.NoMemory) mid → mid.life ≡ life.Live → new ≡ record mid { pending = take (length mid.pending - count) mid.pending; room = room } → LetsGo old count new
@@ -506,3 +506,8 @@ pub both_true : (lines ends : Bool) → lines ≡ true → ends ≡ true → (li
 both_true true true first second = refl
 both_true true false first second = absurd (cc)
 both_true false ends first second = absurd (cc)
+
+-- where both are, the second is
+pub then_second : (lines ends : Bool) → (lines && ends) ≡ true → ends ≡ true
+then_second true ends both = both
+then_second false ends both = absurd (cc)

@@ -34,7 +34,7 @@ answers_work old call reply new short works = record {
   wants = works.wants;
   shut = works.shut;
   spares = λ can none. let never = sym works.writes ∙ can in absurd (cc);
-  tied = record { owed = λ can. let never = sym works.writes ∙ can in absurd (cc); life_is = λ can was. let never = sym works.writes ∙ can in absurd (cc) };
+  tied = record { owed = λ can. let never = sym works.writes ∙ can in absurd (cc); life_is = λ can was had. let never = sym works.writes ∙ can in absurd (cc) };
   stands = works.calls.stands;
   told = works.told;
   needs = works.needs;

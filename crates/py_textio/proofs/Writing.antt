@@ -34,7 +34,7 @@ use Rattle.py_read_text.specs.Answers.{further, IsPassedOn, KeepsFew, has_line_e
 use Rattle.py_textio.specs.Written.{WrittenView, behind_owed, place_now, over_of, state_of, file_now, HandsOnBut, HandsOn, TookText, GoesBack, BackOutcome, LetsGo, HandOutcome}
 use Rattle.py_textio.proofs.Ended.{ended-some}
 use Rattle.py_textio.proofs.Refusing.{refused}
-use Rattle.py_textio.proofs.Settling.{clean_place, own_from_is}
+use Rattle.py_textio.proofs.Settling.{clean_place, own_from_is, both_true}
 use Rattle.py_textio.proofs.Working.{answers_work}
 use Rattle.py_textio.proofs.Over.{calls_on, handed_file}
 use Rattle.py_read_text.proofs.Calling.{fails_still}
@@ -450,7 +450,7 @@ gave_put old mid bytes room new back gave = by_gave gave
       },
     )
 
-pub written_on : (old mid new : WrittenView) (text : List ℕ) (room count : ℕ) (why : IoFault) → MayWrite old text → GoesBack old mid → count ≡ length (own_bytes old text) → HandOutcome (with_bytes mid (own_bytes old text) room) count (has_line_end text) (Err why) new → IsJoined (over_of new) → Answers (state_of old false) (WriteText text) (Refused why) (state_of new (says_wait (Refused why)))
+pub written_on : (old mid new : WrittenView) (text : List ℕ) (room count : ℕ) (why : IoFault) → MayWrite old text → GoesBack old mid → count ≡ length (own_bytes old text) → HandOutcome (with_bytes mid (own_bytes old text) room) count (old.text.settings.line_buffering && has_line_end text) (Err why) new → IsJoined (over_of new) → Answers (state_of old false) (WriteText text) (Refused why) (state_of new (says_wait (Refused why)))
 written_on old mid new text room count (fault.WouldBlock taken) may back counts outcome joined =
     wrote_blocked old new text taken may (put_then old mid new (own_bytes old text) room true false back outcome.0) outcome.1 joined (outcome.2 ∙ counts) outcome.3
 written_on old mid new text room count fault.RawFault may back counts outcome joined =
@@ -461,9 +461,9 @@ written_on old mid new text room count fault.NoMemory may back counts (inr lets)
     unwritten_starved old new text may (let_go_so old mid new (own_bytes old text) room count back counts lets) lets.lives joined
 written_on old mid new text room count other may back counts outcome joined = absurd outcome
 
-pub written_all : (old mid new : WrittenView) (text : List ℕ) (room count chars : ℕ) → MayWrite old text → GoesBack old mid → chars ≡ length text → HandOutcome (with_bytes mid (own_bytes old text) room) count (has_line_end text) (Ok tt) new → IsJoined (over_of new) → Answers (state_of old false) (WriteText text) (Count chars) (state_of new false)
+pub written_all : (old mid new : WrittenView) (text : List ℕ) (room count chars : ℕ) → MayWrite old text → GoesBack old mid → chars ≡ length text → HandOutcome (with_bytes mid (own_bytes old text) room) count (old.text.settings.line_buffering && has_line_end text) (Ok tt) new → IsJoined (over_of new) → Answers (state_of old false) (WriteText text) (Count chars) (state_of new false)
 written_all old mid new text room count chars may back counts outcome joined =
-    wrote old new text chars may (put_then old mid new (own_bytes old text) room false false back outcome.0) outcome.1 joined counts outcome.2 (λ lines ends. outcome.3 (ap (λ (settings : TextSettings). settings.line_buffering) back.hands.settings ∙ lines) ends)
+    wrote old new text chars may (put_then old mid new (own_bytes old text) room false false back outcome.0) outcome.1 joined counts outcome.2 (λ lines ends. outcome.3 (both_true old.text.settings.line_buffering (has_line_end text) lines ends))
 
 -- nothing of the bytes that are given was handed on
 hands_given : (old new : WrittenView) (given : List ℕ) (waited faulted : Bool) → HandsOn old waited faulted new → HandsOnBut given old waited faulted new
@@ -477,8 +477,8 @@ written_not old new text other may outcome joined = absurd outcome
 pub put_is : (old mid put : WrittenView) (text : List ℕ) → GoesBack old mid → put ≡ record mid { pending = mid.pending ++ written_bytes mid.text.settings text; room = put.room } → put ≡ with_bytes mid (own_bytes old text) put.room
 put_is old mid put text back is = is ∙ ap (λ (settings : TextSettings). with_bytes mid (written_bytes settings text) put.room) back.hands.settings
 
-pub hand_at : (put other new : WrittenView) (count : ℕ) (ends line : Bool) (result : Result (Unit {0}) IoFault) → put ≡ other → ends ≡ line → HandOutcome put count ends result new → HandOutcome other count line result new
-hand_at put other new count ends line result same is outcome = subst (λ (view : WrittenView). HandOutcome view count line result new) same (subst (λ (own : Bool). HandOutcome put count own result new) is outcome)
+pub hand_at : (put other new : WrittenView) (count : ℕ) (flushes flush : Bool) (result : Result (Unit {0}) IoFault) → put ≡ other → flushes ≡ flush → HandOutcome put count flushes result new → HandOutcome other count flush result new
+hand_at put other new count flushes flush result same is outcome = subst (λ (view : WrittenView). HandOutcome view count flush result new) same (subst (λ (own : Bool). HandOutcome put count own result new) is outcome)
 
 -- a text with a line end has bytes to hand on
 pub put_some : (old mid put : WrittenView) (text : List ℕ) → put ≡ with_bytes mid (own_bytes old text) put.room → written_refusal old.text.settings text ≡ None → has_line_end text ≡ true → put.pending ≢ []

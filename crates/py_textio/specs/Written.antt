@@ -182,11 +182,11 @@ PassOutcome old count flushes (Err fault.RawFault) new = HandsOn old false true 
 PassOutcome old count flushes (Err fault.NoMemory) new = HandsOn old false false new × (new.life ≡ life.Failed) × (flushes ≡ true) × (new.pending ≡ [])
 PassOutcome old count flushes (Err other) new = ⊥
 
--- what is owed is handed on where it has to be, and with line buffering behind a line end passed on by the buffer; where memory ran out the
--- text failed, or the n bytes are let go of
-abbrev pub HandOutcome : WrittenView → (count : ℕ) → (ends : Bool) → Result (Unit {0}) IoFault → WrittenView → Type 0
-HandOutcome old count ends (Ok done) new = HandsOn old false false new × (new.life ≡ life.Live) × KeepsFew (state_of new false) × (old.text.settings.line_buffering ≡ true → ends ≡ true → IsPassedOn (state_of new false))
-HandOutcome old count ends (Err (fault.WouldBlock taken)) new = HandsOn old true false new × (new.life ≡ life.Live) × (taken ≡ count) × StopsOwing false (over_of new)
-HandOutcome old count ends (Err fault.RawFault) new = HandsOn old false true new × (new.life ≡ life.Failed)
-HandOutcome old count ends (Err fault.NoMemory) new = (HandsOn old false false new × (new.life ≡ life.Failed) × (old.pending ≢ []) × GaveOwn (over_of old) (over_of new)) ⊎ LetsGo old count new
-HandOutcome old count ends (Err other) new = ⊥
+-- what is owed is handed on where it has to be, and passed on by the buffer where it is to; where memory ran out the text failed, or the n
+-- bytes are let go of
+abbrev pub HandOutcome : WrittenView → (count : ℕ) → (flushes : Bool) → Result (Unit {0}) IoFault → WrittenView → Type 0
+HandOutcome old count flushes (Ok done) new = HandsOn old false false new × (new.life ≡ life.Live) × KeepsFew (state_of new false) × (flushes ≡ true → IsPassedOn (state_of new false))
+HandOutcome old count flushes (Err (fault.WouldBlock taken)) new = HandsOn old true false new × (new.life ≡ life.Live) × (taken ≡ count) × StopsOwing false (over_of new)
+HandOutcome old count flushes (Err fault.RawFault) new = HandsOn old false true new × (new.life ≡ life.Failed)
+HandOutcome old count flushes (Err fault.NoMemory) new = (HandsOn old false false new × (new.life ≡ life.Failed) × (old.pending ≢ []) × GaveOwn (over_of old) (over_of new)) ⊎ LetsGo old count new
+HandOutcome old count flushes (Err other) new = ⊥

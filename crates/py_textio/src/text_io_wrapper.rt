@@ -1,68 +1,62 @@
-//! A text over any buffered stream: each call is refused by its life or an ability, or answered by the text below.
-ghost use Rattle.std.specs.Prelude.{◌≡◌, ◌≢◌, ◌≤◌, ◌-◌, true, false, [], Some, None, chars, length, unwrap_or, vec_len, vec_capacity, if◌then◌else◌};
+//! A text over any buffered stream, which has its buffer or, once that was handed back, what is left of the text.
+ghost use Rattle.std.specs.Prelude.{◌≡◌, false, chars, IfOk, IfSome};
 ghost use Rattle.py_flat.specs.Calls.{Refused};
 ghost use Rattle.py_flat.specs.ExactStep.{is_closed};
 ghost use Rattle.py_plain_text.specs.TextCalls.{Read, ReadLine, WriteText, SetChunkSize, Flush, Close, OtherKind};
 ghost use Rattle.py_plain_text.specs.TextCalls as text_call;
 ghost use Rattle.py_text.specs.Settings.{changes_of};
-ghost use Rattle.py_stream.specs.Kinds.{says_wait};
 ghost use Rattle.py_stream.specs.Replies.{count_reply, done_reply};
 ghost use Rattle.py_stream.specs.Writing.{OwesUpTo};
-ghost use Rattle.py_stream.specs.Buffer.{size_shown};
-ghost use Rattle.py_read_text.specs.Reading.{call_of};
 ghost use Rattle.py_read_text.specs.Opening.{WrapOutcome};
-ghost use Rattle.py_read_text.specs.Owing.{IsJoined};
 ghost use Rattle.py_read_text.specs.Answers.{Answers, text_reply};
+ghost use Rattle.py_textio.specs.Handing.{DetachOutcome, PartsOutcome, LendsBuffer, HasRoomBehind, BeginsDetach};
 
 use crate::TextDetached;
-use crate::written_text::WrittenText;
+use crate::attached_text::AttachedText;
+use crate::text_left::TextLeft;
 use py_flat::{IoFault, Life};
-use py_held_text::{Coder, Wanted};
+use py_held_text::Coder;
 use py_plain::{Encoding, Handler, Newlines};
-use py_read_text::{Answer, ReadText, place_of, refusal};
 use py_stream::{BufferedStream, NewRefused};
 use py_text::{Reconfigure, TextSettings};
 use std::alloc::Global;
 use std::marker::Model;
-
-/// Whether an answer says that the raw would have blocked.
-fn would_block(answer: &Result<(), IoFault>) -> bool
-    ensures { result ≡ says_wait (done_reply answer.now) }
-{
-    matches!(answer, Err(IoFault::WouldBlock { .. }))
-}
-
-/// Whether an answer to a write says that the raw would have blocked.
-fn write_would_block(answer: &Result<usize, IoFault>) -> bool
-    ensures { result ≡ says_wait (count_reply answer.now) }
-{
-    matches!(answer, Err(IoFault::WouldBlock { .. }))
-}
 
 /// A text over a buffered stream, as Python's `io.TextIOWrapper`.
 ///
 /// It is seen as the text over what its buffer is seen as (`TextOver`), and whether its last answer was short. Sizes and limits are
 /// characters; the chunk size and places from the start of the stream are bytes.
 ///
-/// Each call first answers by the life, with all as it was and the buffer not called: `Failed` after a fault, `Closed` after a `close`
-/// (which may be called again); then it is `Unsupported` where the buffer lacks what the call needs. Else, where the raw failed in the
-/// call, it is `RawFault`: the text is failed from then on; after `close` it is closed. `NoMemory` means out of memory: place and life
-/// stay, and the call may be made again; but of a text that is written it may be failed, where memory ran out while its buffer took or
-/// passed on what was written.
+/// Each call first answers by the life, with all as it was and the buffer not called: `Failed` after a fault (but a `detach`), `Closed`
+/// after a `close` (which may be called again), `Detached` after a `detach`; then it is `Unsupported` where the buffer lacks what the call
+/// needs. Else, where the raw failed in the call, it is `RawFault`: the text is failed from then on; after `close` it is closed. `NoMemory`
+/// means out of memory: place and life stay, and the call may be made again; but of a text that is written it may be failed, where memory
+/// ran out while its buffer took or passed on what was written. A getter is never refused.
 #[derive(Debug, Drop)]
 pub struct TextIOWrapper<B: BufferedStream> {
-    text: WrittenText<B>,
-    short: bool,
+    attached: Option<AttachedText<B>>,
+    left: TextLeft,
 }
 
-// A function's proof knows what the text is seen as where the function uses a field: so some begin with `let _ = &self.text;`.
 impl<B: BufferedStream> Model for TextIOWrapper<B> {
     ghost use Rattle.py_read_text.specs.TextState.{TextState};
-    ghost use Rattle.py_textio.specs.Written.{state_of};
+    ghost use Rattle.py_textio.specs.Handing.{seen_as, IsAttached};
 
     ghost Value = { TextState };
 
-    ghost view = { λ w. state_of w.text w.short };
+    ghost view = { λ w. seen_as w.attached w.left };
+
+    ghost invariant = { λ w. IsAttached w.attached };
+}
+
+/// Whether the buffer may be handed back: of a live text once all was passed on, and of a failed one.
+fn begin_detach<B: BufferedStream>(attached: &mut Option<AttachedText<B>>) -> Result<(), IoFault>
+    ensures { BeginsDetach attached.old result attached.new }
+{
+    match attached {
+        Some(text) => text.begin_detach(),
+        None => Err(IoFault::Detached),
+    }
 }
 
 impl<B: BufferedStream> TextIOWrapper<B> {
@@ -81,15 +75,16 @@ impl<B: BufferedStream> TextIOWrapper<B> {
         requires owes { OwesUpTo (B.shows buffer).owed (B.shows buffer).place }
         ensures { WrapOutcome B.shows buffer coder settings result }
     {
-        if let Some(fault) = refusal(&buffer, coder, settings) {
-            return Err(NewRefused { raw: buffer, fault });
+        match AttachedText::new(alloc, buffer, coder, settings) {
+            Ok(text) => {
+                let left = text.left();
+                Ok(TextIOWrapper {
+                    attached: Some(text),
+                    left,
+                })
+            }
+            Err(refused) => Err(refused),
         }
-        let mut buffer = buffer;
-        let place = place_of(&mut buffer);
-        Ok(TextIOWrapper {
-            text: WrittenText::new(alloc, ReadText::new(alloc, buffer, coder, settings, place)),
-            short: false,
-        })
     }
 
     /// Reads the next `size` characters, or all that are left for `None`; fewer come only at the end.
@@ -103,7 +98,10 @@ impl<B: BufferedStream> TextIOWrapper<B> {
     pub fn read(&mut self, alloc: Global, size: Option<usize>) -> Result<Option<String>, IoFault>
         ensures { Answers self.old (Read size) (text_reply result) self.new }
     {
-        self.take(alloc, Wanted::Characters(size))
+        match &mut self.attached {
+            Some(text) => text.read(alloc, size),
+            None => Err(IoFault::Detached),
+        }
     }
 
     /// Reads the characters up to and with the next line end, at most `limit`; the last line may lack its end.
@@ -116,7 +114,10 @@ impl<B: BufferedStream> TextIOWrapper<B> {
     ) -> Result<Option<String>, IoFault>
         ensures { Answers self.old (ReadLine limit) (text_reply result) self.new }
     {
-        self.take(alloc, Wanted::Line(limit))
+        match &mut self.attached {
+            Some(text) => text.readline(alloc, limit),
+            None => Err(IoFault::Detached),
+        }
     }
 
     /// Asks its buffer for n bytes at once from here on. No answer hangs on it.
@@ -125,18 +126,9 @@ impl<B: BufferedStream> TextIOWrapper<B> {
     pub fn set_chunksize(&mut self, size: usize) -> Result<(), IoFault>
         ensures { Answers self.old (SetChunkSize size) (done_reply result) self.new }
     {
-        self.short = false;
-        match self.text.life() {
-            Life::Live => {
-                if size == 0 {
-                    return Err(IoFault::BadArgument);
-                }
-                self.text.set_chunksize(size);
-                Ok(())
-            }
-            Life::Failed => Err(IoFault::Failed),
-            Life::Closed => Err(IoFault::Closed),
-            Life::Detached => Err(IoFault::Detached),
+        match &mut self.attached {
+            Some(text) => text.set_chunksize(size),
+            None => Err(IoFault::Detached),
         }
     }
 
@@ -150,12 +142,9 @@ impl<B: BufferedStream> TextIOWrapper<B> {
     pub fn reconfigure(&mut self, changes: Reconfigure) -> Result<(), IoFault>
         ensures { Answers self.old (text_call.Reconfigure (changes_of changes)) (done_reply result) self.new }
     {
-        self.short = false;
-        match self.text.life() {
-            Life::Live => self.text.reconfigure(changes),
-            Life::Failed => Err(IoFault::Failed),
-            Life::Closed => Err(IoFault::Closed),
-            Life::Detached => Err(IoFault::Detached),
+        match &mut self.attached {
+            Some(text) => text.reconfigure(changes),
+            None => Err(IoFault::Detached),
         }
     }
 
@@ -166,23 +155,15 @@ impl<B: BufferedStream> TextIOWrapper<B> {
     /// `SeekFirst` where the text was read since it was placed or a `read` of all came to its end; `UnicodeEncodeError`, by places of the
     /// argument, where the handler refuses a run of characters; `TooFar` where the bytes would end past 9223372036854775807: with all as it
     /// was, and no memory taken. `WouldBlock` says how many bytes the text is written as: all are taken, and later calls pass them on.
-    /// `RawFault`: the text is failed; all of the argument is taken, and what the buffer hasn't is in `into_parts`, or none, where the raw
+    /// `RawFault`: the text is failed; all of the argument is taken, and what the buffer hasn't comes by `detach`, or none, where the raw
     /// failed as a buffer that was read ahead went back. `NoMemory` leaves all as it was, but where the buffer ran out while it took bytes or
     /// passed them on: then the text is failed, too.
     pub fn write(&mut self, alloc: Global, text: &str) -> Result<usize, IoFault>
         ensures { Answers self.old (WriteText (chars text.now)) (count_reply result) self.new }
     {
-        self.short = false;
-        match self.text.life() {
-            Life::Live if self.text.writable() => {
-                let written = self.text.write(alloc, text);
-                self.short = write_would_block(&written);
-                written
-            }
-            Life::Live => Err(IoFault::Unsupported),
-            Life::Failed => Err(IoFault::Failed),
-            Life::Closed => Err(IoFault::Closed),
-            Life::Detached => Err(IoFault::Detached),
+        match &mut self.attached {
+            Some(attached) => attached.write(alloc, text),
+            None => Err(IoFault::Detached),
         }
     }
 
@@ -193,16 +174,9 @@ impl<B: BufferedStream> TextIOWrapper<B> {
     pub fn flush(&mut self) -> Result<(), IoFault>
         ensures { Answers self.old Flush (done_reply result) self.new }
     {
-        self.short = false;
-        match self.text.life() {
-            Life::Live => {
-                let flushed = self.text.flush();
-                self.short = would_block(&flushed);
-                flushed
-            }
-            Life::Failed => Err(IoFault::Failed),
-            Life::Closed => Err(IoFault::Closed),
-            Life::Detached => Err(IoFault::Detached),
+        match &mut self.attached {
+            Some(text) => text.flush(),
+            None => Err(IoFault::Detached),
         }
     }
 
@@ -214,16 +188,31 @@ impl<B: BufferedStream> TextIOWrapper<B> {
     pub fn close(&mut self) -> Result<(), IoFault>
         ensures { Answers self.old Close (done_reply result) self.new }
     {
-        self.short = false;
-        match self.text.life() {
-            Life::Live => {
-                let closed = self.text.close();
-                self.short = would_block(&closed);
-                closed
+        match &mut self.attached {
+            Some(text) => text.close(),
+            None => Err(IoFault::Detached),
+        }
+    }
+
+    /// Hands the buffer back, as Python's `detach` does: of a live text once all that was written was passed on, as by `flush`, so that
+    /// nothing is unwritten; of a failed one at once, with the bytes that the buffer hasn't, and no raw is called. The place comes with it,
+    /// as from `into_parts`; the buffer isn't moved. From then on the getters tell what the text could do and its settings, and every other
+    /// call is `Detached`.
+    ///
+    /// `WouldBlock`: the raw would have blocked before all was passed on, and the text stays live. `RawFault`: the text is failed, and may be
+    /// detached as such. `NoMemory` comes only of a raw that takes memory; the text stays live, or is failed where memory ran out while its
+    /// buffer took what was written. `Closed` of a closed text, `Detached` of a detached one: with all as it was.
+    pub fn detach(&mut self) -> Result<TextDetached<B>, IoFault>
+        ensures outcome { DetachOutcome B.shows self.old result self.new }
+        ensures room { IfOk result (λ parts. HasRoomBehind B.shows parts) }
+    {
+        begin_detach(&mut self.attached)?;
+        match self.attached.take() {
+            Some(text) => {
+                self.left = text.left();
+                Ok(text.into_parts())
             }
-            Life::Closed => Ok(()),
-            Life::Failed => Err(IoFault::Failed),
-            Life::Detached => Err(IoFault::Detached),
+            None => Err(IoFault::Detached),
         }
     }
 
@@ -232,48 +221,60 @@ impl<B: BufferedStream> TextIOWrapper<B> {
     pub fn refuse(&mut self) -> IoFault
         ensures { Answers self.old OtherKind (Refused result) self.new }
     {
-        self.short = false;
-        match self.text.life() {
-            Life::Live => IoFault::Unsupported,
-            Life::Failed => IoFault::Failed,
-            Life::Closed => IoFault::Closed,
-            Life::Detached => IoFault::Detached,
+        match &mut self.attached {
+            Some(text) => text.refuse(),
+            None => IoFault::Detached,
         }
     }
 
-    /// Whether its buffer can be read.
+    /// Whether its buffer can be read, or could be.
     pub fn readable(&self) -> bool
         ensures { result ≡ self.now.text.buffer.can.readable }
     {
-        self.text.readable()
+        match &self.attached {
+            Some(text) => text.readable(),
+            None => self.left.readable,
+        }
     }
 
-    /// Whether its buffer can be written.
+    /// Whether its buffer can be written, or could be.
     pub fn writable(&self) -> bool
         ensures { result ≡ self.now.text.buffer.can.writable }
     {
-        self.text.writable()
+        match &self.attached {
+            Some(text) => text.writable(),
+            None => self.left.writable,
+        }
     }
 
-    /// Whether its buffer can be moved.
+    /// Whether its buffer can be moved, or could be.
     pub fn seekable(&self) -> bool
         ensures { result ≡ self.now.text.buffer.can.seekable }
     {
-        self.text.seekable()
+        match &self.attached {
+            Some(text) => text.seekable(),
+            None => self.left.seekable,
+        }
     }
 
     /// Whether it was closed.
     pub fn closed(&self) -> bool
         ensures { result ≡ is_closed self.now.text.life }
     {
-        matches!(self.text.life(), Life::Closed)
+        match &self.attached {
+            Some(text) => text.closed(),
+            None => false,
+        }
     }
 
-    /// What became of it: live at first, failed by a fault of the raw or, of one that is written, by running out of memory, or closed.
+    /// What became of it: live at first, failed by a fault of the raw or, of one that is written, by running out of memory, closed, or detached.
     pub fn life(&self) -> Life
         ensures { result ≡ self.now.text.life }
     {
-        self.text.life()
+        match &self.attached {
+            Some(text) => text.life(),
+            None => Life::Detached,
+        }
     }
 
     /// Whether the raw would have blocked before the last call was answered in full: its answer is the characters that came by
@@ -281,107 +282,84 @@ impl<B: BufferedStream> TextIOWrapper<B> {
     pub fn short(&self) -> bool
         ensures { result ≡ self.now.short }
     {
-        self.short
+        match &self.attached {
+            Some(text) => text.short(),
+            None => false,
+        }
     }
 
     /// Forgets that a wait cut the last call short. It is for those who answer a call by themselves, which then is the last one.
     pub fn forget_wait(&mut self)
         ensures { self.new ≡ record self.old { short = false } }
     {
-        self.short = false;
+        if let Some(text) = &mut self.attached {
+            text.forget_wait();
+        }
     }
 
     /// The encoding of its bytes.
     pub fn encoding(&self) -> Encoding
         ensures { result ≡ self.now.text.settings.encoding }
     {
-        self.text.coder().encoding
+        match &self.attached {
+            Some(text) => text.encoding(),
+            None => self.left.coder.encoding,
+        }
     }
 
     /// The handler of bytes that spell no character.
     pub fn errors(&self) -> Handler
         ensures { result ≡ self.now.text.settings.handler }
     {
-        self.text.coder().errors
+        match &self.attached {
+            Some(text) => text.errors(),
+            None => self.left.coder.errors,
+        }
     }
 
     /// The rule of its line ends.
     pub fn newline(&self) -> Newlines
         ensures { result ≡ self.now.text.settings.newline }
     {
-        self.text.settings().newline
+        match &self.attached {
+            Some(text) => text.newline(),
+            None => self.left.settings.newline,
+        }
     }
 
-    /// How many bytes it asks its buffer for at once.
+    /// How many bytes it asks its buffer for at once, or asked for.
     pub fn chunksize(&self) -> usize
         ensures { result ≡ self.now.text.settings.chunk_size }
     {
-        self.text.settings().chunk_size
-    }
-
-    /// Hands the buffer back, in every life, with the bytes that were written and that it hasn't, behind those that it owes itself; and,
-    /// where it can seek, with the place where they begin: without any the byte of the text place, where the text was made, or behind what
-    /// was written last, or where a `read` of all came to the end; how many characters were taken since isn't told. The buffer isn't moved:
-    /// it stands behind the last chunk that was read. What was read and not taken is dropped. Bytes that the buffer hasn't come with room for
-    /// as many more as the buffer holds. It takes no memory.
-    pub fn into_parts(self) -> TextDetached<B>
-        ensures buffer { B.shows result.buffer ≡ self.text.buffer }
-        ensures unwritten { result.unwritten.items ≡ self.text.owed }
-        ensures room { result.unwritten.items ≢ [] → unwrap_or (size_shown self.text.buffer.buffering) 0 ≤ vec_capacity result.unwritten - vec_len result.unwritten }
-        ensures joined { IsJoined self.text }
-        ensures place { result.place ≡ (if self.text.buffer.can.seekable then Some (self.text.place.at - length self.text.owed) else None) }
-    {
-        let TextIOWrapper { text, short: _ } = self;
-        let seekable = text.seekable();
-        let (buffer, unwritten, at) = text.into_parts();
-        TextDetached {
-            buffer,
-            unwritten,
-            place: if seekable { Some(at) } else { None },
+        match &self.attached {
+            Some(text) => text.chunksize(),
+            None => self.left.settings.chunk_size,
         }
     }
 
-    /// The buffer, lent.
-    pub fn buffer(&self) -> &B
-        ensures { B.shows result.now ≡ self.now.text.buffer }
+    /// Hands the buffer back, in every life but detached, where it was handed back before, with the bytes that were written and that it
+    /// hasn't, behind those that it owes itself; and, where it can seek, with the place where they begin: without any the byte of the text
+    /// place, where the text was made, or behind what was written last, or where a `read` of all came to the end; how many characters were
+    /// taken since isn't told. The buffer isn't moved: it stands behind the last chunk that was read. What was read and not taken is dropped.
+    /// Bytes that the buffer hasn't come with room for as many more as the buffer holds. It takes no memory.
+    pub fn into_parts(self) -> Option<TextDetached<B>>
+        ensures parts { PartsOutcome B.shows self result }
+        ensures room { IfSome result (λ parts. HasRoomBehind B.shows parts) }
     {
-        self.text.buffer()
-    }
-
-    /// Takes what is wanted, unless the life refuses it, or the buffer can't be read.
-    fn take(&mut self, alloc: Global, wanted: Wanted) -> Result<Option<String>, IoFault>
-        ensures { Answers self.old (call_of wanted) (text_reply result) self.new }
-    {
-        self.short = false;
-        match self.text.life() {
-            Life::Live if self.text.readable() => self.answer(alloc, wanted),
-            Life::Live => Err(IoFault::Unsupported),
-            Life::Failed => Err(IoFault::Failed),
-            Life::Closed => Err(IoFault::Closed),
-            Life::Detached => Err(IoFault::Detached),
+        let TextIOWrapper { attached, left: _ } = self;
+        match attached {
+            Some(text) => Some(text.into_parts()),
+            None => None,
         }
     }
 
-    fn answer(&mut self, alloc: Global, wanted: Wanted) -> Result<Option<String>, IoFault>
-        requires short { self.old.short ≡ false }
-        requires live { self.old.text.life ≡ Life.Live }
-        requires reads { self.old.text.buffer.can.readable ≡ true }
-        ensures { Answers self.old (call_of wanted) (text_reply result) self.new }
+    /// The buffer, lent; `None` exactly where it was handed back.
+    pub fn buffer(&self) -> Option<&B>
+        ensures { LendsBuffer B.shows self.now result }
     {
-        match self.text.read(alloc, wanted) {
-            Ok(Answer::Whole(text)) => Ok(Some(text)),
-            Ok(Answer::Short(text)) => Ok(self.cut_short(Some(text))),
-            Ok(Answer::NotReady) => Ok(self.cut_short(None)),
-            Err(fault) => Err(fault),
+        match &self.attached {
+            Some(text) => Some(text.buffer()),
+            None => None,
         }
-    }
-
-    /// Remembers that a wait cut this answer short.
-    fn cut_short(&mut self, answer: Option<String>) -> Option<String>
-        ensures answer { result ≡ answer }
-        ensures short { self.new ≡ record self.old { short = true } }
-    {
-        self.short = true;
-        answer
     }
 }

@@ -12,7 +12,7 @@ ghost use Rattle.py_stream.specs.Replies.{count_reply, done_reply};
 ghost use Rattle.py_read_text.specs.Reading.{call_of, asks_none, reply_of, waited_in};
 ghost use Rattle.py_read_text.specs.Owing.{IsJoined};
 ghost use Rattle.py_read_text.specs.Knowing.{over_of as read_of};
-ghost use Rattle.py_read_text.specs.Answers.{Answers};
+ghost use Rattle.py_read_text.specs.Answers.{Answers, has_line_end};
 ghost use Rattle.py_textio.specs.Written.{over_of, state_of, file_now, place_now, HasRoom, StandsToWrite, SettleOutcome, stopped_reply, with_taken, RoomFor, BackOutcome, PassOutcome, HandOutcome};
 
 use py_flat::{IoFault, Life};
@@ -91,6 +91,7 @@ impl<B: BufferedStream> WrittenText<B> {
     pub fn life(&self) -> Life
         ensures life { result ≡ self.now.life }
         ensures joined { IsJoined (over_of self.now) }
+        ensures lives { self.now.life ≡ Life.Live → self.now.text.buffer.life ≡ Life.Live }
     {
         self.life
     }
@@ -444,28 +445,28 @@ impl<B: BufferedStream> WrittenText<B> {
         self.pending.truncate(self.pending.len() - count);
     }
 
-    /// Whether a text with a line end, or without, is passed on by the buffer once it is written.
-    fn flushes(&self, ends: bool) -> bool
-        ensures { result ≡ (self.now.text.settings.line_buffering && ends) }
+    /// Whether a text is passed on by the buffer once it is written: with line buffering one that has a line end. Without it none is looked
+    /// for.
+    fn flushes(&self, text: &str) -> bool
+        ensures { result ≡ (self.now.text.settings.line_buffering && has_line_end (chars text.now)) }
     {
-        self.text.settings().line_buffering && ends
+        self.text.settings().line_buffering && has_line_end(text)
     }
 
-    /// Hands the buffer what is owed, where that has to be: with write through, from a chunk on, and behind a line end with line buffering,
-    /// where the buffer passes on all then. The last n bytes are the text's that is being written.
-    fn hand_on(&mut self, count: usize, ends: bool) -> Result<(), IoFault>
+    /// Hands the buffer what is owed, where that has to be: with write through, from a chunk on, and where the buffer is to pass on all then.
+    /// The last n bytes are the text's that is being written.
+    fn hand_on(&mut self, count: usize, flushes: bool) -> Result<(), IoFault>
         requires live { self.old.life ≡ Life.Live }
         requires stands { StandsToWrite self.old.text }
         requires writes { self.old.text.buffer.can.writable ≡ true }
         requires count { count ≤ length self.old.pending }
-        requires some { ends ≡ true → self.old.pending ≢ [] }
-        ensures outcome { HandOutcome self.old count ends result self.new }
+        requires some { flushes ≡ true → self.old.pending ≢ [] }
+        ensures outcome { HandOutcome self.old count flushes result self.new }
         ensures joined { IsJoined (over_of self.new) }
     {
         // What holds of every text is known from here on.
         let _ = self.life();
         let settings = self.text.settings();
-        let flushes = self.flushes(ends);
         if !flushes && !settings.write_through && self.pending.len() < settings.chunk_size {
             return Ok(());
         }
@@ -546,9 +547,10 @@ impl<B: BufferedStream> WrittenText<B> {
         let Some(bytes) = self.room_for(size.bytes) else {
             return Err(IoFault::TooFar);
         };
+        let flushes = self.flushes(text);
         match self.go_back() {
             Ok(()) => match self.put(alloc, text, bytes) {
-                Ok(()) => match self.hand_on(bytes, has_line_end(text)) {
+                Ok(()) => match self.hand_on(bytes, flushes) {
                     Ok(()) => Ok(size.chars),
                     Err(fault) => Err(fault),
                 },

@@ -1,14 +1,13 @@
-use Rattle.std.proofs.Common.{sym, refl}
-use Rattle.py_flat.specs.declared.life.Life.TheVariants as life
-use Rattle.py_flat.specs.declared.fault.IoFault.TheVariants as fault
-use Rattle.py_textio.proofs.Refusing.{refused_flush}
+use Rattle.std.proofs.Common.{refl}
+use Rattle.py_plain_text.specs.TextCalls.{Flush}
+use Rattle.py_read_text.specs.TextState.{settings_of}
+use Rattle.py_textio.specs.Handing.{can_of}
+use Rattle.py_textio.proofs.Detached.{detached_answers}
 use Rattle.py_textio.proofs.text_io_wrapper.TextIOWrapper.flush.Goals as goal
+use Rattle.py_textio.proofs.text_io_wrapper.TextIOWrapper.flush.Goals.{in-Some, in-None}
 
-pub returns-in-Closed : goal.returns-in-Closed
-returns-in-Closed g c = refused_flush _ c.self.inside.text _ life.Closed fault.Closed c.self.view_is (sym c.in-Closed.ensures.life) refl c.life.ensures.joined
-
-pub returns-in-Failed : goal.returns-in-Failed
-returns-in-Failed g c = refused_flush _ c.self.inside.text _ life.Failed fault.Failed c.self.view_is (sym c.in-Failed.ensures.life) refl c.life.ensures.joined
-
-pub returns-in-Detached : goal.returns-in-Detached
-returns-in-Detached g c = refused_flush _ c.self.inside.text _ life.Detached fault.Detached c.self.view_is (sym c.in-Detached.ensures.life) refl c.life.ensures.joined
+pub returns : goal.returns
+returns g c = elim c.match-self.branch [
+  | in-Some w ↦ rw (← c.self.view_is, w.in-Some.is, w.result-is, w.self-inside-is) w.flush.ensures
+  | in-None w ↦ rw (← c.self.view_is, w.result-is, w.self-inside-is, w.in-None.is) (detached_answers (can_of c.self.inside.left) (settings_of c.self.inside.left.coder c.self.inside.left.settings) Flush refl)
+]

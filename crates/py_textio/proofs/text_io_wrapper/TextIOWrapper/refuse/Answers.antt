@@ -1,13 +1,13 @@
-use Rattle.std.proofs.Common.{sym, ◌∙◌}
-use Rattle.py_flat.specs.declared.life.Life.TheVariants as life
-use Rattle.py_textio.proofs.Refusing.{refused_other}
+use Rattle.std.proofs.Common.{refl}
+use Rattle.py_plain_text.specs.TextCalls.{OtherKind}
+use Rattle.py_read_text.specs.TextState.{settings_of}
+use Rattle.py_textio.specs.Handing.{can_of}
+use Rattle.py_textio.proofs.Detached.{detached_answers}
 use Rattle.py_textio.proofs.text_io_wrapper.TextIOWrapper.refuse.Goals as goal
-use Rattle.py_textio.proofs.text_io_wrapper.TextIOWrapper.refuse.Goals.{in-Live, in-Failed, in-Closed, in-Detached}
+use Rattle.py_textio.proofs.text_io_wrapper.TextIOWrapper.refuse.Goals.{in-Some, in-None}
 
 pub returns : goal.returns
-returns g c = elim c.match-life.branch [
-  | in-Live w ↦ refused_other _ c.self.inside.text _ life.Live _ c.self.view_is (sym c.life.ensures.life ∙ w.in-Live.is) w.result-is c.life.ensures.joined
-  | in-Failed w ↦ refused_other _ c.self.inside.text _ life.Failed _ c.self.view_is (sym c.life.ensures.life ∙ w.in-Failed.is) w.result-is c.life.ensures.joined
-  | in-Closed w ↦ refused_other _ c.self.inside.text _ life.Closed _ c.self.view_is (sym c.life.ensures.life ∙ w.in-Closed.is) w.result-is c.life.ensures.joined
-  | in-Detached w ↦ refused_other _ c.self.inside.text _ life.Detached _ c.self.view_is (sym c.life.ensures.life ∙ w.in-Detached.is) w.result-is c.life.ensures.joined
+returns g c = elim c.match-self.branch [
+  | in-Some w ↦ rw (← c.self.view_is, w.in-Some.is, w.result-is, w.self-inside-is) w.refuse.ensures
+  | in-None w ↦ rw (← c.self.view_is, w.result-is, w.self-inside-is, w.in-None.is) (detached_answers (can_of c.self.inside.left) (settings_of c.self.inside.left.coder c.self.inside.left.settings) OtherKind refl)
 ]

@@ -1,20 +1,13 @@
-use Rattle.std.proofs.Common.{ℕ, nat_eq, sym, ap, refl}
-use Rattle.py_flat.specs.declared.life.Life.TheVariants as life
-use Rattle.py_flat.specs.declared.fault.IoFault.TheVariants as fault
-use Rattle.py_textio.proofs.Refusing.{tested_some, refused_chunk, refused_none, chunks_so}
+use Rattle.std.proofs.Common.{refl}
+use Rattle.py_plain_text.specs.TextCalls.{SetChunkSize}
+use Rattle.py_read_text.specs.TextState.{settings_of}
+use Rattle.py_textio.specs.Handing.{can_of}
+use Rattle.py_textio.proofs.Detached.{detached_answers}
 use Rattle.py_textio.proofs.text_io_wrapper.TextIOWrapper.set_chunksize.Goals as goal
+use Rattle.py_textio.proofs.text_io_wrapper.TextIOWrapper.set_chunksize.Goals.{in-Some, in-None}
 
-pub returns-then-size-eq0 : goal.returns-then-size-eq0
-returns-then-size-eq0 g c = refused_none _ c.self.inside.text _ c.args.size c.self.view_is (sym c.in-Live.ensures.life) (ap (λ (n : ℕ). nat_eq n 0) c.if-size-eq0.true) c.life.ensures.joined
-
-pub returns-else-size-eq0 : goal.returns-else-size-eq0
-returns-else-size-eq0 g c = chunks_so _ c.self.inside.text c.set_chunksize.new.self _ c.args.size c.self.view_is (sym c.in-Live.ensures.life) (tested_some c.args.size c.if-size-eq0.false) c.life.ensures.joined c.set_chunksize.ensures
-
-pub returns-in-Failed : goal.returns-in-Failed
-returns-in-Failed g c = refused_chunk _ c.self.inside.text _ c.args.size life.Failed fault.Failed c.self.view_is (sym c.in-Failed.ensures.life) refl c.life.ensures.joined
-
-pub returns-in-Closed : goal.returns-in-Closed
-returns-in-Closed g c = refused_chunk _ c.self.inside.text _ c.args.size life.Closed fault.Closed c.self.view_is (sym c.in-Closed.ensures.life) refl c.life.ensures.joined
-
-pub returns-in-Detached : goal.returns-in-Detached
-returns-in-Detached g c = refused_chunk _ c.self.inside.text _ c.args.size life.Detached fault.Detached c.self.view_is (sym c.in-Detached.ensures.life) refl c.life.ensures.joined
+pub returns : goal.returns
+returns g c = elim c.match-self.branch [
+  | in-Some w ↦ rw (← c.self.view_is, w.in-Some.is, w.result-is, w.self-inside-is) w.set_chunksize.ensures
+  | in-None w ↦ rw (← c.self.view_is, w.result-is, w.self-inside-is, w.in-None.is) (detached_answers (can_of c.self.inside.left) (settings_of c.self.inside.left.coder c.self.inside.left.settings) (SetChunkSize c.args.size) refl)
+]

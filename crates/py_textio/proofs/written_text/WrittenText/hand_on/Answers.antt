@@ -1,11 +1,11 @@
-use Rattle.std.proofs.Common.{rules, ◌∙◌}
-use Rattle.py_textio.proofs.Settling.{passed_behind, handed_not, both_true}
+use Rattle.std.proofs.Common.{rules}
+use Rattle.py_textio.proofs.Settling.{passed_behind, handed_not}
 use Rattle.py_textio.proofs.written_text.WrittenText.hand_on.Goals as goal
 
 pub returns-in-Ok-clause-outcome : goal.returns-in-Ok-clause-outcome
 returns-in-Ok-clause-outcome g c =
-    passed_behind c.args.self.now c.settle.new.self c.pass_on-in-Ok.new.self c.args.count _ c.args.ends c.pass_on-in-Ok.result c.life.ensures.joined c.in-Ok.ensures.joined c.in-Ok.ensures.outcome.0 c.pass_on-in-Ok.ensures.outcome (λ lines is. c.flushes-flushes.ensures ∙ both_true _ _ lines is) (λ is. search rules)
+    passed_behind c.args.self.now c.settle.new.self c.pass_on-in-Ok.new.self c.args.count c.args.flushes c.pass_on-in-Ok.result c.life.ensures.joined c.in-Ok.ensures.joined c.in-Ok.ensures.outcome.0 c.pass_on-in-Ok.ensures.outcome c.requires.some
 
 pub returns-else-matches-clause-outcome : goal.returns-else-matches-clause-outcome
 returns-else-matches-clause-outcome g c =
-    rw c.with_taken.ensures (handed_not c.args.self.now c.settle.new.self c.args.count c.args.ends c.in-Err.fault (search rules) c.in-Err.ensures.outcome (search rules))
+    rw c.with_taken.ensures (handed_not c.args.self.now c.settle.new.self c.args.count c.args.flushes c.in-Err.fault (search rules) c.in-Err.ensures.outcome (search rules))

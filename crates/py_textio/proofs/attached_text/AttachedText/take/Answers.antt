@@ -5,7 +5,7 @@ use Rattle.py_read_text.specs.Answers.{text_reply}
 use Rattle.py_read_text.specs.Reading.{call_of}
 use Rattle.py_textio.specs.Written.{state_of}
 use Rattle.py_textio.proofs.Refusing.{refused_by_life, refused_unread, over_short, passes_read}
-use Rattle.py_textio.proofs.text_io_wrapper.TextIOWrapper.take.Goals as goal
+use Rattle.py_textio.proofs.attached_text.AttachedText.take.Goals as goal
 
 pub returns-in-Live-2 : goal.returns-in-Live-2
 returns-in-Live-2 g c = refused_unread _ c.self.inside.text _ c.args.wanted c.self.view_is (sym c.in-Live-2.ensures.life) (sym c.readable.ensures ∙ c.if-readable.false) c.life.ensures.joined
