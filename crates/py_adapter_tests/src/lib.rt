@@ -1,7 +1,8 @@
 //! Tests of what no list of cases reaches: the thin adapters over files, readers and writers, over fakes and over real
-//! files; the readings that a raw stream has of its own; handlers of a user's own; flags, and the texts of errors.
+//! files; the readings that a raw stream has of its own; flags, and the texts of errors.
 //!
-//! The sessions and programs over them have their cases in `py_cases`, the codecs theirs in `py_codec_vectors`.
+//! The sessions and programs over them have their cases in `py_cases`; handlers of a user's own are tested in
+//! `py_handler_tests`.
 #![tactic(auto)]
 
 #[cfg(test)]
@@ -12,8 +13,6 @@ mod fake;
 mod file_opener;
 #[cfg(test)]
 mod file_raw;
-#[cfg(test)]
-mod handlers;
 #[cfg(test)]
 mod raw_modes;
 #[cfg(test)]

@@ -101,3 +101,10 @@ pub fn gives(answer: &Result<Option<Vec<u8>>, IoFault>, bytes: &[u8]) -> bool {
         _ => false,
     }
 }
+
+/// Whether a raw stream holds these bytes.
+///
+/// A list of bytes that is compared where an example holds streams costs the proof of that some seconds, and here once.
+pub fn holds(raw: &MemRaw, bytes: &[u8]) -> bool {
+    raw.bytes_of() == bytes
+}

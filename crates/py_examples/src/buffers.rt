@@ -6,7 +6,6 @@ use py_callers::{buffer_of_stream, mark_first};
 use py_flat::IoFault;
 use py_memio::BytesIO;
 use std::alloc::Global;
-use std::test::Fail;
 
 /// The first `width` bytes of each row of a matrix, one row after the other. BadArgument says that a row leaves the matrix.
 fn front_columns(
@@ -42,36 +41,36 @@ fn front_columns(
 }
 
 #[test]
-fn front_columns_of_a_matrix_are_joined(rt: HostRuntime) -> Result<(), Fail> {
+fn front_columns_of_a_matrix_are_joined(rt: HostRuntime) {
     let alloc = rt.alloc();
-    let front = front_columns(alloc, b"abcdef", 2, 3, 2)?;
+    let front = front_columns(alloc, b"abcdef", 2, 3, 2).expect(&rt, "columns");
     assert!(rt; front.as_slice() == &b"abde"[..]);
     let outside = front_columns(alloc, b"abcde", 3, 3, 2); // the third row would begin after the last byte
     assert!(rt; outside.err() == Some(IoFault::BadArgument));
-    Ok(())
 }
 
 #[test]
-fn the_first_byte_of_a_stream_is_edited_in_place(rt: HostRuntime) -> Result<(), Fail> {
+fn the_first_byte_of_a_stream_is_edited_in_place(rt: HostRuntime) {
     let alloc = rt.alloc();
-    let mut stream = BytesIO::new(alloc, b"abc".to_vec(alloc)?);
+    let mut stream = BytesIO::new(alloc, b"abc".to_vec(alloc).expect(&rt, "room"));
     assert!(rt; mark_first(&mut stream, b'x') == Ok(()));
-    let bytes = stream.getvalue(alloc)?;
+    let bytes = stream.getvalue(alloc).expect(&rt, "the bytes");
     assert!(rt; bytes.as_slice() == &b"xbc"[..]);
     assert!(rt; stream.write(b"yz") == Ok(2)); // the bytes are lent no more
-    Ok(())
 }
 
 #[test]
-fn lent_bytes_of_a_stream_are_a_buffer(rt: HostRuntime) -> Result<(), Fail> {
+fn lent_bytes_of_a_stream_are_a_buffer(rt: HostRuntime) {
     let alloc = rt.alloc();
-    let mut stream = BytesIO::new(alloc, b"abc".to_vec(alloc)?);
-    let export = stream.getbuffer()?;
+    let mut stream = BytesIO::new(alloc, b"abc".to_vec(alloc).expect(&rt, "room"));
+    let export = stream.getbuffer().expect(&rt, "an export");
     let mut bytes = Vec::new(alloc);
-    buffer_of_stream(alloc, &stream, export)?.append_to(&mut bytes)?;
+    buffer_of_stream(alloc, &stream, export)
+        .expect(&rt, "a buffer")
+        .append_to(&mut bytes)
+        .expect(&rt, "room");
     assert!(rt; bytes.as_slice() == &b"abc"[..]);
-    stream.release(export)?;
+    assert!(rt; stream.release(export) == Ok(()));
     let refused = buffer_of_stream(alloc, &stream, export); // that number isn't out any more
     assert!(rt; refused.err() == Some(IoFault::BadArgument));
-    Ok(())
 }

@@ -1,8 +1,9 @@
 //! Buffered writers, their waits and faults: the examples of docs/FAULTS.md.
 use py_buffered::BufferedWriter;
-use py_example_streams::{three_lines, writer_to};
-use py_raw::{IoFault, Life, RawStream};
+use py_example_streams::{holds, three_lines, writer_to};
+use py_raw::{IoFault, Life, Lines, RawStream};
 use py_raw_memory::{Cut, MemRaw};
+use py_stream::Detached;
 use std::alloc::Global;
 use std::process::Abort;
 use std::test::Fail;
@@ -17,7 +18,7 @@ fn lines_are_collected_and_passed_on(rt: HostRuntime) -> Result<(), Fail> {
     assert!(rt; writer.flush() == Ok(())); // the raw has all eight bytes
     assert!(rt; writer.close() == Ok(()));
     let parts = writer.into_parts().expect(&rt, "a raw");
-    assert!(rt; parts.raw.bytes_of() == &b"one\ntwo\n"[..]);
+    assert!(rt; holds(&parts.raw, b"one\ntwo\n"));
     Ok(())
 }
 
@@ -31,7 +32,7 @@ fn a_write_that_has_to_wait_goes_on_past_what_was_taken(rt: HostRuntime) -> Resu
     assert!(rt; writer.write(b"789") == Ok(3)); // later: what is left of them
     assert!(rt; writer.flush() == Ok(()));
     let detached = writer.detach().expect(&rt, "a raw");
-    assert!(rt; detached.raw.bytes_of() == &b"0123456789"[..]);
+    assert!(rt; holds(&detached.raw, b"0123456789"));
     assert!(rt; detached.unwritten.is_empty());
     Ok(())
 }
@@ -39,14 +40,14 @@ fn a_write_that_has_to_wait_goes_on_past_what_was_taken(rt: HostRuntime) -> Resu
 #[test]
 fn lines_that_have_to_wait_are_counted_over_all_of_them(rt: HostRuntime) -> Result<(), Fail> {
     let alloc = rt.alloc();
-    let lines = three_lines(alloc)?;
     // the raw takes three bytes, and then asks to wait
     let mut writer = writer_to(alloc, b"", &[Cut::Take(3), Cut::Wait], &[], 4)?;
+    let lines = three_lines(alloc).expect(&rt, "room");
     assert!(rt; writer.writelines(&lines) == Err(IoFault::WouldBlock { taken: 7 }));
     assert!(rt; writer.write(b"\nghi\n") == Ok(5)); // later: what is left of the lines joined
     assert!(rt; writer.flush() == Ok(()));
     let detached = writer.detach().expect(&rt, "a raw");
-    assert!(rt; detached.raw.bytes_of() == &b"abc\ndef\nghi\n"[..]);
+    assert!(rt; holds(&detached.raw, b"abc\ndef\nghi\n"));
     Ok(())
 }
 
@@ -61,7 +62,21 @@ fn a_flush_that_has_to_wait_is_called_again(rt: HostRuntime) -> Result<(), Fail>
     assert!(rt; writer.flush() == Ok(())); // later: now the raw has them
     assert!(rt; writer.tell() == Ok(6));
     let detached = writer.detach().expect(&rt, "a raw");
-    assert!(rt; detached.raw.bytes_of() == &b"abcdef"[..]);
+    assert!(rt; holds(&detached.raw, b"abcdef"));
+    Ok(())
+}
+
+/// The later calls of `what_a_fault_leaves_is_written_elsewhere`, by what is handed back.
+fn lent_what_is_handed_back_is_written(
+    rt: &impl Abort,
+    alloc: Global,
+    detached: &Detached<MemRaw>,
+) -> Result<(), Fail> {
+    let mut writer = writer_to(alloc, detached.raw.bytes_of(), &[], &[], 8)?;
+    assert!(rt; writer.seek(2, 0) == Ok(2));
+    assert!(rt; writer.write(&detached.unwritten) == Ok(4));
+    let detached = writer.detach().expect(rt, "a raw");
+    assert!(rt; holds(&detached.raw, b"abcdef"));
     Ok(())
 }
 
@@ -78,13 +93,7 @@ fn lent_what_a_fault_leaves_is_written_elsewhere(
     let detached = writer.detach()?;
     assert!(rt; detached.unwritten.as_slice() == &b"cdef"[..]);
     assert!(rt; detached.place == Some(2));
-    // the stream is opened anew, and what wasn't written is written where it belongs
-    let mut writer = writer_to(alloc, detached.raw.bytes_of(), &[], &[], 8)?;
-    assert!(rt; writer.seek(2, 0) == Ok(2));
-    assert!(rt; writer.write(&detached.unwritten) == Ok(4));
-    let detached = writer.detach().expect(rt, "a raw");
-    assert!(rt; detached.raw.bytes_of() == &b"abcdef"[..]);
-    Ok(())
+    lent_what_is_handed_back_is_written(rt, alloc, &detached)
 }
 
 #[test]
@@ -144,7 +153,7 @@ fn a_close_that_has_to_wait_is_called_again(rt: HostRuntime) -> Result<(), Fail>
     assert!(rt; writer.life() == Life::Live);
     assert!(rt; writer.close() == Ok(())); // later
     let parts = writer.into_parts().expect(&rt, "a raw");
-    assert!(rt; parts.raw.bytes_of() == &b"abc"[..]);
+    assert!(rt; holds(&parts.raw, b"abc"));
     Ok(())
 }
 
@@ -174,22 +183,31 @@ fn a_seek_that_has_to_wait_stands_where_it_stood(rt: HostRuntime) -> Result<(), 
     assert!(rt; writer.tell() == Ok(6)); // it stands where it stood
     assert!(rt; writer.seek(0, 0) == Ok(0)); // later
     let detached = writer.detach().expect(&rt, "a raw");
-    assert!(rt; detached.raw.bytes_of() == &b"abcdef"[..]);
+    assert!(rt; holds(&detached.raw, b"abcdef"));
     Ok(())
 }
 
-#[test]
-fn lines_that_fail_are_counted_by_place_and_rest(rt: HostRuntime) -> Result<(), Fail> {
-    let alloc = rt.alloc();
-    let lines = three_lines(alloc)?;
-    // the raw takes three bytes, and then fails
-    let mut writer = writer_to(alloc, b"", &[Cut::Take(3), Cut::Break(0)], &[], 4)?;
+/// The calls of `lines_that_fail_are_counted_by_place_and_rest`, whose writer and lines are lent.
+fn lent_lines_that_fail_are_counted_by_place_and_rest(
+    rt: &impl Abort,
+    writer: &mut BufferedWriter<MemRaw>,
+    lines: &Lines,
+) -> Result<(), Fail> {
     assert!(rt; writer.writelines(&lines) == Err(IoFault::RawFault)); // three lines of four bytes, from place 0
     let detached = writer.detach()?;
     assert!(rt; detached.raw.bytes_of() == &b"abc"[..]);
     assert!(rt; detached.unwritten.as_slice() == &b"\n"[..]);
     assert!(rt; detached.place == Some(3)); // 3 and 1: the first line was taken, and the others weren't
     Ok(())
+}
+
+#[test]
+fn lines_that_fail_are_counted_by_place_and_rest(rt: HostRuntime) -> Result<(), Fail> {
+    let alloc = rt.alloc();
+    // the raw takes three bytes, and then fails
+    let mut writer = writer_to(alloc, b"", &[Cut::Take(3), Cut::Break(0)], &[], 4)?;
+    let lines = three_lines(alloc).expect(&rt, "room");
+    lent_lines_that_fail_are_counted_by_place_and_rest(&rt, &mut writer, &lines)
 }
 
 #[test]
@@ -205,6 +223,6 @@ fn a_raw_that_fails_to_close_has_all_the_same(rt: HostRuntime) -> Result<(), Fai
     };
     assert!(rt; parts.raw.closed()); // closed it is, though it said that it failed
     assert!(rt; parts.unwritten.is_empty());
-    assert!(rt; parts.raw.bytes_of() == &b"abc"[..]);
+    assert!(rt; holds(&parts.raw, b"abc"));
     Ok(())
 }
