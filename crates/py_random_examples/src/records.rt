@@ -1,8 +1,9 @@
 //! A store of records that are changed in place, over a raw that fails in the middle: the example of docs/FAULTS.md.
+use crate::random_mending::broken;
 use py_buffered::{BufferedRandom, Whence};
 use py_example_streams::{gives, random_over, written_back};
 use py_raw::{IoFault, RawStream};
-use py_raw_memory::MemRaw;
+use py_raw_memory::{Cut, MemRaw};
 use std::alloc::Global;
 use std::test::Fail;
 
@@ -47,7 +48,8 @@ fn mended(
     alloc: Global,
     mut failed: BufferedRandom<MemRaw>,
 ) -> Result<BufferedRandom<MemRaw>, Fail> {
-    written_back(alloc, failed.detach()?, 16)
+    let buffer_size = failed.buffer_size();
+    written_back(alloc, failed.detach()?, buffer_size)
 }
 
 /// All records.
@@ -59,9 +61,15 @@ fn all_records<R: RawStream>(
     stream.read(alloc, None)
 }
 
-/// Counts records up, one after another, where the call of the raw with a number fails; gives all records as they are read then.
-fn all_counted(alloc: Global, fault: u64) -> Result<Option<Vec<u8>>, Fail> {
-    let mut stream = random_over(alloc, RECORDS, &[], &[fault], 16)?;
+/// Counts records up, one after another, over a raw that follows a plan, and of whose calls those with these numbers fail; gives all
+/// records as they are read then.
+fn all_counted(
+    alloc: Global,
+    plan: &[Cut],
+    faults: &[u64],
+    buffer_size: usize,
+) -> Result<Option<Vec<u8>>, Fail> {
+    let mut stream = random_over(alloc, RECORDS, plan, faults, buffer_size)?;
     for number in COUNTED {
         if count_up(alloc, &mut stream, number) == Err(IoFault::RawFault) {
             // what was counted before is mended, and this record is counted once more: none of its bytes was taken
@@ -78,10 +86,28 @@ fn all_counted(alloc: Global, fault: u64) -> Result<Option<Vec<u8>>, Fail> {
     }
 }
 
+/// The sizes of buffers: of one record, of some more bytes, of two records, and of all.
+const BUFFER_SIZES: [usize; 4] = [8, 11, 16, 40];
+
 #[test]
 fn no_record_is_lost_where_the_raw_fails(rt: HostRuntime) -> Result<(), Fail> {
-    for fault in 1..40 {
-        assert!(rt; gives(&Ok(all_counted(rt.alloc(), fault)?), COUNTED_UP));
+    for buffer_size in BUFFER_SIZES {
+        for fault in 1..40 {
+            let records = all_counted(rt.alloc(), &[], &[fault], buffer_size)?;
+            assert!(rt; gives(&Ok(records), COUNTED_UP));
+        }
+    }
+    Ok(())
+}
+
+#[test]
+fn no_record_is_lost_where_a_transfer_breaks_off(rt: HostRuntime) -> Result<(), Fail> {
+    for buffer_size in BUFFER_SIZES {
+        for count in 0..60 {
+            let plan = broken(rt.alloc(), count)?;
+            let records = all_counted(rt.alloc(), &plan, &[], buffer_size)?;
+            assert!(rt; gives(&Ok(records), COUNTED_UP));
+        }
     }
     Ok(())
 }
