@@ -25,7 +25,8 @@ use Rattle.py_binary.specs.Binary.{AnswersBy}
 use Rattle.py_open.specs.Session.{SessionView, TextSession, BinarySession, file_seen, raw_of, life_of, owed_of, bytes_in, IsInStep, AnswersTextBy, Answers}
 use Rattle.py_open.specs.Run.{IsRun, IsSmooth, NoneLacksMemory, all_said}
 use Rattle.py_open.specs.Laws.{FilePassesAll, TextPassesAll, PassesAll, Completes}
-use Rattle.py_open.proofs.Steps.{left_life, step_keeps, step_causes, step_completes, step_in_step, uncaused}
+use Rattle.py_open.proofs.Steps.{left_life, step_keeps, step_causes, step_completes, step_in_step}
+use Rattle.py_textio.proofs.Smooth.{uncaused}
 use Rattle.py_open.proofs.Ending.{step_passes}
 use Rattle.py_open.proofs.Runs.{run_keeps_raw, smooth_up_to, smooth_from, closed_stays}
 use Rattle.py_open.proofs.Gone.{run_stays}

@@ -11,3 +11,4 @@ pub mod Joining
 pub mod OpenedRaw
 pub mod OpenedFile
 pub mod IoOpening
+pub mod Sizes

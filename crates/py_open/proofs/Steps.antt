@@ -1,12 +1,10 @@
 -- What one call of a session does, by its kind.
 use Rattle.std.proofs.Common.{inl, inr, ◌≡◌, ◌≢◌, ◌⊎◌, ◌||◌, ℕ, Bool, true, false, IsTrue, List, [], ◌∷◌, Option, Some, None, is_some, unwrap_or, refl, sym, ap, ◌∙◌, subst, if◌then◌else◌, arith}
-use Rattle.std.proofs.lemmas.Bool.{le-leb}
 use Rattle.py_flat.specs.declared.fault.IoFault.{IoFault}
 use Rattle.py_flat.specs.declared.fault.IoFault.TheVariants as fault
 use Rattle.py_flat.specs.declared.life.Life.{Life}
 use Rattle.py_flat.specs.declared.life.Life.TheVariants as life
 use Rattle.py_flat.specs.Bytes.{lay}
-use Rattle.py_flat.specs.Causes.{Rose, rose}
 use Rattle.py_flat.specs.Calls.{FileCall, Detach, FileReply, Done, Unwritten, Refused}
 use Rattle.py_flat.specs.Calls as binary
 use Rattle.py_flat.specs.FlatFile.{Abilities, FlatFile}
@@ -38,6 +36,7 @@ use Rattle.py_read_text.specs.TextState as state
 use Rattle.py_read_text.specs.TextState.{TextState}
 use Rattle.py_read_text.specs.Answers as over
 use Rattle.py_read_text.proofs.Living.{hands_none}
+use Rattle.py_textio.proofs.Smooth.{text_alone, uncaused}
 use Rattle.py_text_session.specs.Session.{OwesNothing}
 use Rattle.py_binary.specs.Binary.{gone_stream, left_by, left_of, HandsOwed, AnswersCall, AnswersBy}
 use Rattle.py_binary.proofs.Leaving.{attached_on}
@@ -262,12 +261,6 @@ step_told (BinarySession before) call reply (TextSession after) step tells = abs
 
 -- A step that has neither cause, and had memory, is settled.
 
-text_alone : (before : TextFile) (call : TextFileCall) (reply : FileReply) (waited faulted : Bool) (after : TextFile) → waited ≡ false → faulted ≡ false → reply ≢ Refused fault.NoMemory → TextFileStep before call reply waited faulted after → text_file.Settled before call reply after
-text_alone before call reply waited faulted after no_wait no_fault had (settled exact) = exact
-text_alone before call reply waited faulted after no_wait no_fault had (waited_for rose part) = let wrong : true ≡ false = sym rose ∙ no_wait in absurd (cc)
-text_alone before call reply waited faulted after no_wait no_fault had (raw_faulted rose said left) = let wrong : true ≡ false = sym rose ∙ no_fault in absurd (cc)
-text_alone before call reply waited faulted after no_wait no_fault had (out_of_memory said left) = absurd (had said)
-
 binary_alone : (before : FlatFile) (call : FileCall) (reply : FileReply) (waited faulted : Bool) (after : FlatFile) → waited ≡ false → faulted ≡ false → reply ≢ Refused fault.NoMemory → BinaryStep before call reply waited faulted after → Settled before call reply after
 binary_alone before call reply waited faulted after no_wait no_fault had (settled exact) = exact
 binary_alone before call reply waited faulted after no_wait no_fault had (waited_for rose part) = let wrong : true ≡ false = sym rose ∙ no_wait in absurd (cc)
@@ -283,15 +276,6 @@ step_settles (OfText before) call reply waited faulted (OfText after) no_wait no
 step_settles (OfBinary before) call reply waited faulted (OfBinary after) no_wait no_fault had step = settles_by (is_getter (file_call call)) before call reply waited faulted after no_wait no_fault had step
 step_settles (OfText before) call reply waited faulted (OfBinary after) no_wait no_fault had step = absurd step
 step_settles (OfBinary before) call reply waited faulted (OfText after) no_wait no_fault had step = absurd step
-
--- what has no cause isn't so
-pub uncaused : (said : Bool) (old new : ℕ) → (IsTrue said → Rose old new) → rose old new ≡ false → said ≡ false
-uncaused true old new cause none =
-    let risen : Rose old new = cause refl in
-    let tested : rose old new ≡ true = le-leb _ new risen in
-    let wrong : true ≡ false = sym tested ∙ none in
-    absurd (cc)
-uncaused false old new cause none = refl
 
 pub smooth_step : (before : SessionView) (call : Call) (reply : Reply) (after : SessionView) → Answers before call reply after → IsTrue (tells (raw_of before)) → IsSmooth (raw_of before) (raw_of after) → said reply ≢ Refused fault.NoMemory → Settles (file_seen before) call (said reply) (file_seen after)
 smooth_step before call reply after step tells smooth had =

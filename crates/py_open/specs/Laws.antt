@@ -1,17 +1,17 @@
 -- What holds of whole runs, whatever raw is below.
-use Rattle.std.specs.Prelude.{◌≡◌, Bool, true, false, ℕ, List, [], ◌∷◌, Option, None, is_some}
+use Rattle.std.specs.Prelude.{◌≡◌, Bool, true, false, IsTrue, ℕ, List, [], ◌∷◌, Option, None, is_some}
 use Rattle.py_flat.specs.declared.fault.IoFault.TheVariants as fault
 use Rattle.py_flat.specs.Calls.{FileCall, FileReply, Done, Count, Unwritten, Refused}
 use Rattle.py_flat.specs.Calls as file
-use Rattle.py_flat.specs.FlatFile.{FlatFile}
+use Rattle.py_flat.specs.FlatFile.{Buffered, FlatFile}
 use Rattle.py_flat.specs.Refusals.{is_getter}
 use Rattle.py_plain_text.specs.TextFile.{TextSettings, TextFile}
 use Rattle.py_plain_text.specs.TextCalls as text
 use Rattle.py_plain_text.specs.TextCalls.{TextFileCall, tells_name}
 use Rattle.py_plain_text.specs.TextRefusals.{refusal}
 use Rattle.py_plain_text.specs.TextWriting.{written_bytes}
-use Rattle.py_plain_text.specs.TextExact.{carried_out, after_writing, exact}
-use Rattle.py_raw.specs.RawStream.{Raw, WhereTold, WhereBytes}
+use Rattle.py_plain_text.specs.TextExact.{carried_out, after_writing, exact, with_chunk_size}
+use Rattle.py_raw.specs.RawStream.{Raw, WhereTold, WhereBytes, tells}
 use Rattle.py_text.specs.declared.reconfigure.Reconfigure.{Reconfigure}
 use Rattle.py_stream.specs.Stream.{Stream, file_of, nothing_owed}
 use Rattle.py_stream.specs.Answers as stream
@@ -26,7 +26,7 @@ use Rattle.py_read_text.specs.Answers.{has_line_end}
 use Rattle.py_text_session.specs.Session.{OwesNothing}
 use Rattle.py_binary.specs.Binary.{detached_fault}
 use Rattle.py_open.specs.Session.{SessionFile, OfText, OfBinary, SessionView, TextSession, BinarySession, raw_of, file_seen, owed_of, flat_bytes, SaysOrStarves, flag_seen, Answers}
-use Rattle.py_open.specs.Run.{Entry, IsRun, IsMarkedRun, IsHistory, calls_of, replies_of, all_said}
+use Rattle.py_open.specs.Run.{Entry, IsRun, IsMarkedRun, IsHistory, IsSmooth, NoneLacksMemory, calls_of, replies_of, all_said}
 
 -- Texts.
 
@@ -47,6 +47,42 @@ exact_after file (call ∷ calls) = exact_after (session_exact file call).1 call
 pub record IsExact (before : TextFile) (calls : List Call) (replies : List FileReply) (after : SessionFile) : Type 0 where
   pub says : replies ≡ exact_replies before calls
   pub leaves : after ≡ OfText (exact_after before calls)
+
+-- Sizes.
+
+-- a file whose buffer has a size
+abbrev pub with_buffer : FlatFile → ℕ → FlatFile
+with_buffer file size = record file { buffering = Buffered size }
+
+-- two files are alike but for how large things are: of texts the chunks, of streams of bytes the buffers, which both have
+abbrev pub AlikeButSizes : SessionFile → SessionFile → Type 0
+AlikeButSizes (OfText one) (OfText other) = (chunk : ℕ) × (other ≡ with_chunk_size one chunk)
+AlikeButSizes (OfBinary one) (OfBinary other) = (was is : ℕ) × (one ≡ with_buffer one was) × (other ≡ with_buffer one is)
+AlikeButSizes one other = ⊥
+
+abbrev pub is_text : SessionFile → Bool
+is_text (OfText file) = true
+is_text (OfBinary file) = false
+
+-- whether a call asks for a size, or for what one transfer brings, by whether the session is a text
+abbrev pub tells_size : (text : Bool) → Call → Bool
+tells_size true call.ChunkSize = true
+tells_size false (call.Read1 size) = true
+tells_size false (call.ReadInto1 size) = true
+tells_size false call.Peek = true
+tells_size text call = false
+
+-- none of these calls does
+abbrev pub NoneTellsSize : (text : Bool) → List Call → Type 0
+NoneTellsSize text [] = Unit {0}
+NoneTellsSize text (call ∷ calls) = (tells_size text call ≡ false) × NoneTellsSize text calls
+
+-- a run over a raw that tells, in which no count of the raw rose and no call ran out of memory
+pub record IsSmoothRun (before : SessionView) (calls : List Call) (replies : List Reply) (after : SessionView) : Type 0 where
+  pub run : IsRun before calls replies after
+  pub told : IsTrue (tells (raw_of before))
+  pub smooth : IsSmooth (raw_of before) (raw_of after)
+  pub memory : NoneLacksMemory (all_said replies)
 
 -- Histories, and runs in parts.
 

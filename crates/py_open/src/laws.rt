@@ -21,7 +21,7 @@ ghost use Rattle.py_open.specs.Opening.{OpensSession, RefusesSession};
 ghost use Rattle.py_open.specs.OpenedFile.{opened_file};
 ghost use Rattle.py_open.specs.Paths.{raw_mode, RefusesOrLacks};
 ghost use Rattle.py_open.specs.Run.{Entry, IsRun, IsHistory, IsCalm, IsSmooth, NoneLacksMemory, AllSettle, all_said, calls_of, replies_of};
-ghost use Rattle.py_open.specs.Laws.{IsExact, HasHistory, RunsInTwo, RunsComplete, KeepsSettings, OnlyReads, PassesAll, HoldsFlat, StaysClosed, StaysDetached, FileStaysDetached};
+ghost use Rattle.py_open.specs.Laws.{AlikeButSizes, NoneTellsSize, is_text, IsSmoothRun, IsExact, HasHistory, RunsInTwo, RunsComplete, KeepsSettings, OnlyReads, PassesAll, HoldsFlat, StaysClosed, StaysDetached, FileStaysDetached};
 
 /// A run over a raw that tells, in which no count of the raw rose and no call ran out of memory, is the model's: there is a flat
 /// file between any two calls, and each reply is what the file there answers, exactly, but that a single transfer gives some front
@@ -56,6 +56,14 @@ pub fn two_runs_are_a_run()
 /// A history gains an entry at its end: a step from the file that it came to.
 pub fn a_history_gains_an_entry()
     ensures { (before mid after : SessionFile) (entries : List Entry) (entry : Entry) → IsHistory before entries mid → SessionStep mid entry.call (said entry.reply) entry.waited entry.faulted after → IsHistory before (entries ++ entry ∷ []) after }
+{}
+
+/// No reply hangs on how large buffers and chunks are: two runs of the same calls over raws that tell, in which no count rose and no call
+/// ran out of memory, from sessions that hadn't failed and whose files are alike but for these sizes, have the same replies, and leave
+/// files that are alike so; whatever their buffers hold and their raws move. Not said is it of calls that ask for the size, and of those
+/// of bytes that give what one transfer brings.
+pub fn no_reply_hangs_on_the_sizes()
+    ensures { (one other : SessionView) (calls : List Call) (replies others : List Reply) (left right : SessionView) → AlikeButSizes (file_seen one) (file_seen other) → life_of one ≢ life.Failed → NoneTellsSize (is_text (file_seen one)) calls → IsSmoothRun one calls replies left → IsSmoothRun other calls others right → (all_said others ≡ all_said replies) × AlikeButSizes (file_seen left) (file_seen right) }
 {}
 
 /// A run over a raw that tells is a history of its flat files: the same calls and replies, each a step of the model, marked

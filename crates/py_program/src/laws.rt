@@ -27,7 +27,8 @@ pub fn a_smooth_run_prints_what_settles()
 /// these calls come to, of a text that is only read those that it held. The sizes of buffer and chunks change no reply but that to a
 /// question for the chunk size.
 ///
-/// Two such runs of one script over equal files print the same, whatever pieces the file was read in.
+/// So two such runs of one script over equal files print the same, whatever pieces the files were read in, and whatever the sizes are
+/// (`no_reply_hangs_on_the_sizes` of `py_open` says so of two runs of a session).
 pub fn a_smooth_run_prints_the_exact_replies()
     ensures { (words : List (List ℕ)) (old new : SourceView) (before after : Outside) (path mode : List ℕ) (args : OpenArgs) (plan : OpenPlan) (text : TextPlan) → Ends 0 words old new before after → command_of words ≡ Some (Run path mode args) → built_in_plan mode args ≡ Ok plan → plan.kind ≡ Text text → IsTrue old.tells → IsTrue before.opener.tells → RawsAreReady before after → PrintsExactly path plan text old before after }
 {

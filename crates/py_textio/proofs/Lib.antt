@@ -6,7 +6,8 @@ mod Over
 mod Stopping
 mod Nothing
 mod Writing
-mod Sizes
+pub mod Sizes
+pub mod Smooth
 mod Ended
 mod Rooms
 mod Detaching

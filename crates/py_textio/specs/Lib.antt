@@ -1,3 +1,4 @@
 pub mod Written
 pub mod Working
 pub mod Handing
+pub mod Sizes

@@ -11,6 +11,6 @@ mod text_io_wrapper;
 mod text_left;
 mod written_text;
 
-pub use laws::no_answer_hangs_on_the_chunk_size;
+pub use laws::no_answer_hangs_on_the_sizes;
 pub use text_detached::TextDetached;
 pub use text_io_wrapper::TextIOWrapper;
