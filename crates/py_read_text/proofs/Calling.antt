@@ -1,5 +1,5 @@
 -- A flush and a close of a text that owes nothing itself, from what its buffer answered.
-use Rattle.std.proofs.Common.{◌≡◌, ℕ, inl, inr, ◌⊎◌, ◌&&◌, Bool, true, false, IsTrue, List, [], ◌∷◌, ◌++◌, Option, None, Result, Ok, Err, refl, sym, ap, ◌∙◌, subst, arith}
+use Rattle.std.proofs.Common.{◌≡◌, ℕ, ◌+◌, inl, inr, ◌⊎◌, ◌&&◌, Bool, true, false, IsTrue, List, [], ◌∷◌, ◌++◌, length, Option, None, Result, Ok, Err, refl, sym, ap, ◌∙◌, subst, arith}
 use Rattle.py_flat.specs.declared.fault.IoFault.{IoFault}
 use Rattle.py_flat.specs.declared.fault.IoFault.TheVariants as fault
 use Rattle.py_flat.specs.declared.life.Life.{Life}
@@ -22,11 +22,11 @@ use Rattle.py_stream.specs.Replies.{done_reply}
 use Rattle.py_stream.specs.Answers as stream
 use Rattle.py_stream.specs.Buffer.{Buffer, flat_of, size_shown, refused_here, parts_when_closed, IsClosedWithRaw, AnswersAsBuffer}
 use Rattle.py_read_text.specs.Knowing.{TextView, over_of, state_of, shown_file, place_of}
-use Rattle.py_read_text.specs.Owing.{Starves, StopsOwing, may_close, KeepsOpen, Closes}
+use Rattle.py_read_text.specs.Owing.{behind_own, Starves, StopsOwing, may_close, KeepsOpen, Closes}
 use Rattle.py_read_text.specs.Answers.{IsReplyTo, IsComplete, IsShort, LifeMoves, WantsMemory, TextPasses, Answers}
 use Rattle.py_read_text.specs.Reading.{KeepsPlace}
 use Rattle.py_read_text.proofs.Results.{same_file}
-use Rattle.py_read_text.proofs.Placing.{flush_flat, close_flat, text_flushed, text_closed}
+use Rattle.py_read_text.proofs.Placing.{flush_flat, flush_place, close_flat, close_place, text_flushed, text_closed}
 use Rattle.py_read_text.proofs.Answering.{Holds}
 use Rattle.py_read_text.proofs.Owing.{joined_of, passes_behind, front_passes, owes_none, open_of, attached_in}
 use Rattle.py_read_text.proofs.Fronts.{lays_alone, lays_owed}
@@ -75,6 +75,10 @@ with_buffer text buffer = record text { buffer = buffer }
 stays_at : (text : TextView) (after : Buffer) → KeepsPlace text (with_buffer text after)
 stays_at text after = record { at = refl; taken = refl; dirty = refl; settings = refl }
 
+-- where the buffer stands where it stood, so does the place behind what the text owes, which is nothing
+stands_still : (text : TextView) (after : Buffer) → after.place ≡ text.buffer.place → behind_own (over_of (with_buffer text after)) ≡ behind_own (over_of text)
+stands_still text after place = ap (λ (at : ℕ). at + length {A = ℕ} []) place
+
 abbrev pair_of : FileReply → TextFile → FileReply × TextFile
 pair_of reply file = (reply, file)
 
@@ -115,12 +119,12 @@ flush_life size writes (Err fault.RawFault) before after moves = moves
 flush_life size writes (Err fault.NoMemory) before after moves = inl moves
 flush_life size writes (Err other) before after moves = moves
 
-flush_reply : (size : Option ℕ) (writes : Bool) (result : Result (Unit {0}) IoFault) → stream.IsReplyTo size writes binary.Flush (done_reply result) → IsReplyTo writes Flush (done_reply result)
-flush_reply size writes (Ok done) is = tt
-flush_reply size writes (Err (fault.WouldBlock taken)) is = waits_so writes is
-flush_reply size writes (Err fault.RawFault) is = tt
-flush_reply size writes (Err fault.NoMemory) is = tt
-flush_reply size writes (Err other) is = absurd is
+flush_reply : (before after : Buffer) (result : Result (Unit {0}) IoFault) → refused_here before binary.Flush ≡ None → AnswersAsBuffer before binary.Flush (done_reply result) after → IsReplyTo before.can.writable Flush (done_reply result)
+flush_reply before after (Ok done) accepted answers = tt
+flush_reply before after (Err (fault.WouldBlock taken)) accepted answers = (waits_so before.can.writable (answers.answer accepted), answers.full.0)
+flush_reply before after (Err fault.RawFault) accepted answers = tt
+flush_reply before after (Err fault.NoMemory) accepted answers = tt
+flush_reply before after (Err other) accepted answers = absurd (answers.answer accepted)
 
 flush_complete : (result : Result (Unit {0}) IoFault) → stream.IsAnswerTo binary.Flush (done_reply result) → IsComplete Flush (done_reply result) (says_wait (done_reply result))
 flush_complete (Ok done) is = record { answer = tt; whole = refl }
@@ -182,7 +186,7 @@ flush_so old after result live is answers =
       owes = owes_none (over_of old) Flush (over_of (with_buffer old after)) tt (passes_behind old.buffer.raw after.raw old.buffer.owed.bytes after.owed.bytes [] (front_passes old.buffer after answers.owes));
       lays = λ told. lays_owed (over_of old) [] after.raw.bytes (joined_of old is) (lays_alone old.buffer after is.owes answers.lays told);
       starves = flush_starves old after result answers;
-      answer = λ accepts. flush_reply (size_shown old.buffer.buffering) old.buffer.can.writable result (answers.answer taken_here);
+      answer = λ accepts. flush_reply old.buffer after result taken_here answers;
       complete = λ accepts calm sound. flush_complete result (answers.complete taken_here calm sound).0;
       wants = flush_wants old.buffer after result answers;
       closes = tt;
@@ -197,6 +201,7 @@ flush_so old after result live is answers =
       hides = λ waited gives. absurd (cc);
       stops = λ waited. flush_stops old after result answers waited;
       passes = flush_passes old after result answers;
+      by_own = stands_still old after (flush_place (size_shown old.buffer.buffering) result old.buffer.life after.life old.buffer.place after.place live answers.moves.life_is answers.moves.place);
       kept = tt;
     }
 
@@ -220,12 +225,12 @@ close_life size writes (Err fault.RawFault) before after moves = moves
 close_life size writes (Err fault.NoMemory) before after moves = inl moves
 close_life size writes (Err other) before after moves = moves
 
-close_reply : (size : Option ℕ) (writes : Bool) (result : Result (Unit {0}) IoFault) → stream.IsReplyTo size writes binary.Close (done_reply result) → IsReplyTo writes Close (done_reply result)
-close_reply size writes (Ok done) is = tt
-close_reply size writes (Err (fault.WouldBlock taken)) is = waits_so writes is
-close_reply size writes (Err fault.RawFault) is = tt
-close_reply size writes (Err fault.NoMemory) is = tt
-close_reply size writes (Err other) is = absurd is
+close_reply : (before after : Buffer) (result : Result (Unit {0}) IoFault) → refused_here before binary.Close ≡ None → AnswersAsBuffer before binary.Close (done_reply result) after → IsReplyTo before.can.writable Close (done_reply result)
+close_reply before after (Ok done) accepted answers = tt
+close_reply before after (Err (fault.WouldBlock taken)) accepted answers = (waits_so before.can.writable (answers.answer accepted), answers.full.0)
+close_reply before after (Err fault.RawFault) accepted answers = tt
+close_reply before after (Err fault.NoMemory) accepted answers = tt
+close_reply before after (Err other) accepted answers = absurd (answers.answer accepted)
 
 close_complete : (result : Result (Unit {0}) IoFault) → stream.IsAnswerTo binary.Close (done_reply result) → IsComplete Close (done_reply result) (says_wait (done_reply result))
 close_complete (Ok done) is = record { answer = tt; whole = refl }
@@ -312,7 +317,7 @@ close_so old after result live is answers =
       owes = owes_none (over_of old) Close (over_of (with_buffer old after)) tt (passes_behind old.buffer.raw after.raw old.buffer.owed.bytes after.owed.bytes [] (front_passes old.buffer after answers.owes));
       lays = λ told. lays_owed (over_of old) [] after.raw.bytes (joined_of old is) (lays_alone old.buffer after is.owes answers.lays told);
       starves = close_starves old after result answers;
-      answer = λ accepts. close_reply (size_shown old.buffer.buffering) old.buffer.can.writable result (answers.answer taken_here);
+      answer = λ accepts. close_reply old.buffer after result taken_here answers;
       complete = λ accepts calm sound. close_complete result (answers.complete taken_here calm sound).0;
       wants = close_wants old.buffer after result answers;
       closes = close_closes old.buffer after result live answers;
@@ -327,6 +332,7 @@ close_so old after result live is answers =
       hides = λ waited gives. absurd (cc);
       stops = λ waited. close_stops old after result answers waited;
       passes = close_passes old after result live answers;
+      by_own = stands_still old after (close_place (size_shown old.buffer.buffering) result old.buffer.life after.life old.buffer.place after.place live answers.moves.life_is answers.moves.place);
       kept = tt;
     }
 

@@ -10,6 +10,7 @@ use Rattle.py_flat.specs.Calls.{FileReply, Refused}
 use Rattle.py_flat.specs.AllowedStep.{raw_faulted, out_of_memory}
 use Rattle.py_plain.specs.Units.{Unknown}
 use Rattle.py_plain_text.specs.TextFile.{TextFile, TextPlace, TextSettings}
+use Rattle.py_plain_text.specs.TextOver.{TextOver}
 use Rattle.py_plain_text.specs.TextCalls.{Read, ReadLine}
 use Rattle.py_plain_text.specs.TextRefusals.{refusal}
 use Rattle.py_plain_text.specs.TextAllowed.{reaches_raw, TextFileStep}
@@ -25,7 +26,7 @@ use Rattle.py_read_text.specs.Waiting.{ShowsAll}
 use Rattle.py_read_text.specs.Ahead.{AsksAsNeeded}
 use Rattle.py_read_text.specs.TextState.{TextState}
 use Rattle.py_read_text.specs.Owing.{IsJoined, given_by, WriteMovesBy, Starves, Closes}
-use Rattle.py_read_text.specs.Answers.{calls_nothing, gives_text, IsReplyTo, IsComplete, IsShort, PlaceMoves, WriteMoves, LifeMoves, settings_after, closes_again, WantsMemory, ClosesWithRaw, TextPasses, TextKeeps, Answers}
+use Rattle.py_read_text.specs.Answers.{calls_nothing, gives_text, IsReplyTo, IsComplete, IsShort, PlaceMoves, WriteMoves, LifeMoves, settings_after, closes_again, WantsMemory, ClosesWithRaw, TextPasses, MovesByOwn, TextKeeps, Answers}
 use Rattle.py_read_text.specs.Knowing.{TextView, place_of, over_of, state_of, shown_file}
 use Rattle.py_read_text.specs.Reading.{call_of, asks_none, Reads, KeepsPlace, HoldsNothing, gathers_wait, GatherOutcome, GathersAsNeeded, Finishes, OnlyWhereWaits, WaitsOrLacks, reply_of, waited_in}
 use Rattle.py_read_text.proofs.Steps.{accepts}
@@ -91,6 +92,10 @@ writes_none settings (Line limit) reply before after = tt
 passes_none : (before : TextState) (asked : Wanted) (reply : FileReply) (after : TextState) → TextPasses before (call_of asked) reply after
 passes_none before (Characters size) reply after = tt
 passes_none before (Line limit) reply after = tt
+
+moves_any : (asked : Wanted) (before after : TextOver Buffer) → MovesByOwn (call_of asked) before after
+moves_any (Characters size) before after = tt
+moves_any (Line limit) before after = tt
 
 keeps_any : (asked : Wanted) (reply : FileReply) (after : TextState) → TextKeeps (call_of asked) reply after
 keeps_any (Characters size) reply after = tt
@@ -175,6 +180,7 @@ answers old new asked waited short reply live can parts =
       hides = λ is gives own. let hidden = parts.hides is in record { empty = hidden.0; shows = hidden.1 };
       stops = λ is. record { full = λ some. absurd (some refl); some = λ none own. let never = sym (gives_some asked) ∙ none in absurd (cc) };
       passes = passes_none (state_of old false) asked reply (state_of new short);
+      by_own = moves_any asked (over_of old) (over_of new);
       kept = keeps_any asked reply (state_of new short);
     }
 

@@ -13,6 +13,7 @@ use Rattle.py_flat.specs.Causes.{rose, counted}
 use Rattle.py_flat.specs.ExactStep.{is_closed}
 use Rattle.py_codec.specs.Answers.{text_of}
 use Rattle.py_plain_text.specs.TextFile.{TextPlace, clean_at, TextSettings}
+use Rattle.py_plain_text.specs.TextOver.{TextOver}
 use Rattle.py_plain_text.specs.TextStep.{asks_any, place_taking}
 use Rattle.py_plain_text.specs.TextCalls.{TextFileCall, Read, ReadLine, WriteText, Reconfigure, SetChunkSize, Flush, Close, Detach, OtherKind, changed}
 use Rattle.py_plain_text.specs.TextRefusals.{refusal}
@@ -26,7 +27,7 @@ use Rattle.py_stream.specs.Buffer.{Buffer, WhereShown, KeepsBuffer, IsClosedWith
 use Rattle.py_read_text.specs.TextState.{TextState, file_of}
 use Rattle.py_read_text.specs.Waiting.{ShowsAll}
 use Rattle.py_read_text.specs.Ahead.{ReadsNoFurther}
-use Rattle.py_read_text.specs.Owing.{all_owed, IsJoined, given_by, OwesOn, LaysOwed, Starves, StopsOwing, KeepsOpen, StaysWhileOwing, may_close, Closes}
+use Rattle.py_read_text.specs.Owing.{all_owed, behind_own, IsJoined, given_by, OwesOn, LaysOwed, Starves, StopsOwing, KeepsOpen, StaysWhileOwing, may_close, Closes}
 
 -- what the answer of a reading says, in the model's words
 abbrev pub text_reply : Result (Option (String Global)) IoFault → FileReply
@@ -74,16 +75,17 @@ IsAnswerTo Detach (Unwritten bytes place) = Unit {0}
 IsAnswerTo call (Refused fault.NoMemory) = Unit {0}
 IsAnswerTo call reply = ⊥
 
--- the replies that an accepted call may have at all: one that passes on what was written has to wait only over a buffer that writes
+-- the replies that an accepted call may have at all: one that passes on what was written has to wait only over a buffer that writes, and
+-- then a flush, a close and a detaching count 0 bytes as taken
 abbrev pub IsReplyTo : Bool → TextFileCall → FileReply → Type 0
 IsReplyTo writes (Reconfigure changes) reply = reply ≡ Done
 IsReplyTo writes (SetChunkSize size) reply = reply ≡ Done
 IsReplyTo writes (Read size) NotReady = Unit {0}
 IsReplyTo writes (ReadLine limit) NotReady = Unit {0}
 IsReplyTo writes (WriteText text) (Refused (fault.WouldBlock taken)) = IsTrue writes
-IsReplyTo writes Flush (Refused (fault.WouldBlock taken)) = IsTrue writes
-IsReplyTo writes Close (Refused (fault.WouldBlock taken)) = IsTrue writes
-IsReplyTo writes Detach (Refused (fault.WouldBlock taken)) = IsTrue writes
+IsReplyTo writes Flush (Refused (fault.WouldBlock taken)) = IsTrue writes × (taken ≡ 0)
+IsReplyTo writes Close (Refused (fault.WouldBlock taken)) = IsTrue writes × (taken ≡ 0)
+IsReplyTo writes Detach (Refused (fault.WouldBlock taken)) = IsTrue writes × (taken ≡ 0)
 IsReplyTo writes call (Refused fault.RawFault) = Unit {0}
 IsReplyTo writes call reply = IsAnswerTo call reply
 
@@ -242,6 +244,14 @@ TextPasses before Detach (Unwritten bytes place) after = before.text.life ≡ li
 TextPasses before (WriteText text) (Count count) after = before.text.settings.line_buffering ≡ true → has_line_end text ≡ true → IsPassedOn after
 TextPasses before call reply after = Unit {0}
 
+-- a flush, a close and a detaching move the buffer just by the bytes that it took of the text's own, which begin where it stands: the place
+-- behind these stays
+abbrev pub MovesByOwn : TextFileCall → TextOver Buffer → TextOver Buffer → Type 0
+MovesByOwn Flush before after = behind_own after ≡ behind_own before
+MovesByOwn Close before after = behind_own after ≡ behind_own before
+MovesByOwn Detach before after = behind_own after ≡ behind_own before
+MovesByOwn call before after = Unit {0}
+
 -- after an answered write the text itself owes fewer bytes than a chunk has, and nothing where it writes through
 pub record KeepsFew (state : TextState) : Type 0 where
   pub few : length state.text.owed < state.text.settings.chunk_size
@@ -311,5 +321,7 @@ pub record Answers (before : TextState) (call : TextFileCall) (reply : FileReply
   pub stops : IsTrue after.short → StopsOwing (gives_text call) after.text
   -- what a call passed on
   pub passes : TextPasses before call reply after
+  -- how far a call that gives and takes no characters moves the buffer
+  pub by_own : MovesByOwn call before.text after.text
   -- how little an answered write leaves with the text
   pub kept : TextKeeps call reply after

@@ -21,6 +21,10 @@ use Rattle.py_stream.specs.Buffer.{Buffer, WhereShown, stream_shown, IsClosedWit
 abbrev pub all_owed : TextOver Buffer → List ℕ
 all_owed text = text.buffer.owed.bytes ++ text.owed
 
+-- the place behind the bytes that a text itself owes, which begin where its buffer stands; without any, where that stands
+abbrev pub behind_own : TextOver Buffer → ℕ
+behind_own text = text.buffer.place + length text.owed
+
 -- what a buffer owes ends where it stands, and bytes that a text owes itself begin there; where any of both are owed the text stands
 -- behind them. It stands nowhere further on, and that no further than a stream can
 pub record JoinsAt (buffer : Buffer) (own : List ℕ) (at : ℕ) : Type 0 where

@@ -181,6 +181,7 @@ set_answers view changes live accepted joined = record {
   needs = λ gives. absurd (cc);
   hides = λ short. absurd (cc);
   passes = tt;
+  by_own = tt;
   kept = tt;
 }
 

@@ -20,7 +20,7 @@ use Rattle.py_raw.proofs.Telling.{keeps_same}
 use Rattle.py_stream.specs.Replies.{done_reply}
 use Rattle.py_stream.specs.Buffer.{Buffer, flat_of}
 use Rattle.py_read_text.specs.TextState.{TextState, file_of, settings_of}
-use Rattle.py_read_text.specs.Owing.{all_owed, IsJoined, JoinsAt, Starves}
+use Rattle.py_read_text.specs.Owing.{all_owed, behind_own, IsJoined, JoinsAt, Starves}
 use Rattle.py_read_text.specs.Answers.{passes_on, IsReplyTo, IsComplete, LifeMoves, WantsMemory, Answers}
 use Rattle.py_read_text.proofs.Owing.{passes_none, owes_none, open_still}
 use Rattle.py_read_text.proofs.Fronts.{lays_still}
@@ -118,6 +118,7 @@ refuses_so old new why other answers =
       needs = λ gives. absurd (cc);
       hides = λ is gives. absurd (cc);
       passes = tt;
+      by_own = answers.by_own;
       kept = tt;
     }
 
@@ -189,6 +190,7 @@ detached_done old new live answers =
       needs = λ gives. absurd (cc);
       hides = λ is gives. absurd (cc);
       passes = λ lives. let passed = answers.passes in record { own = passed.own; none = passed.none; holds = passed.holds };
+      by_own = answers.by_own;
       kept = tt;
     }
 
@@ -260,6 +262,7 @@ hands_failed old failed joined =
       needs = λ gives. absurd (cc);
       hides = λ short. absurd (cc);
       passes = λ lives. let never : life.Failed ≡ life.Live = sym failed ∙ lives in absurd (cc);
+      by_own = refl;
       kept = tt;
     }
 
@@ -301,6 +304,10 @@ flushed_place old now owed place can =
     ∙ (ap (λ (own : TextPlace). if now.buffer.can.seekable then Some (own.at - length {A = ℕ} []) else None) place
     ∙ ap (λ (own : Abilities). if own.seekable then Some (old.place.at - length {A = ℕ} []) else None) can)
 
+-- its buffer took all that the text itself owed
+flushed_to : (old now : TextOver Buffer) → now.owed ≡ [] → behind_own now ≡ behind_own old → now.buffer.place ≡ behind_own old
+flushed_to old now none same = omega (arith, same, ap length none)
+
 over_live : (old now : TextState) (kept : TextLeft) (buffer : Buffer) (unwritten : List ℕ) (place : Option ℕ) → old.text.life ≡ life.Live → Answers old Flush Done now → LivesWithBuffer now → IsHanded now kept buffer unwritten place → HandsOver old buffer unwritten place (seen_as None kept)
 over_live old now kept buffer unwritten place live answers lives is =
     let none : unwritten ≡ [] = is.unwritten_is ∙ answers.passes.own in
@@ -315,6 +322,7 @@ over_live old now kept buffer unwritten place live answers lives is =
       place_is = refl;
       at_once = λ failed. let never : life.Live ≡ life.Failed = sym live ∙ failed in absurd (cc);
       lives = λ was. lives (answers.moves.life_is ∙ live);
+      stands = λ was. flushed_to old.text now.text answers.passes.own answers.by_own;
       left = left_so old.text now.text kept can answers.moves.settings is.can is.settings;
     })))
 
@@ -330,6 +338,7 @@ over_failed old now kept buffer unwritten place failed same joined is =
       place_is = refl;
       at_once = λ was. refl;
       lives = λ live. let never : life.Failed ≡ life.Live = sym failed ∙ live in absurd (cc);
+      stands = λ live. let never : life.Failed ≡ life.Live = sym failed ∙ live in absurd (cc);
       left = left_so old.text now.text kept (ap (λ (own : TextOver Buffer). own.buffer.can) text) (ap (λ (own : TextOver Buffer). own.settings) text) is.can is.settings;
     })))
 

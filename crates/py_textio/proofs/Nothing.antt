@@ -98,6 +98,7 @@ none_answers (Characters size) old was live can none joined = record {
   needs = λ gives told. inl (omega arith);
   hides = λ short. absurd (cc);
   passes = tt;
+  by_own = tt;
   kept = tt;
 }
 none_answers (Line limit) old was live can none joined = record {
@@ -128,6 +129,7 @@ none_answers (Line limit) old was live can none joined = record {
   needs = λ gives told. inl (omega arith);
   hides = λ short. absurd (cc);
   passes = tt;
+  by_own = tt;
   kept = tt;
 }
 

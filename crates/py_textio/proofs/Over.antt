@@ -9,7 +9,7 @@ use Rattle.py_flat.specs.Calls.{FileReply, Done, Refused}
 use Rattle.py_flat.specs.Causes.{Rose, rose}
 use Rattle.py_plain_text.specs.TextFile.{TextFile, TextPlace, TextSettings}
 use Rattle.py_plain_text.specs.TextOver.{TextOver}
-use Rattle.py_plain_text.specs.TextCalls.{TextFileCall, Flush, Close}
+use Rattle.py_plain_text.specs.TextCalls.{TextFileCall, Flush, Close, Detach}
 use Rattle.py_plain_text.specs.TextRefusals.{refusal}
 use Rattle.py_plain_text.specs.TextAllowed.{TextFileStep}
 use Rattle.py_raw.specs.RawStream.{Keeps}
@@ -21,10 +21,10 @@ use Rattle.py_held_text.specs.declared.wanted.Wanted.TheVariants.{Characters, Li
 use Rattle.py_read_text.specs.Reading.{call_of, asks_none}
 use Rattle.py_read_text.proofs.Steps.{accepts}
 use Rattle.py_read_text.specs.TextState.{TextState}
-use Rattle.py_read_text.specs.Owing.{all_owed, PassesOwed, given_by, WriteMovesBy, OwesOn, own_from, GaveOwn, Starves, KeepsOpen, Closes, IsJoined, LaysOwed}
+use Rattle.py_read_text.specs.Owing.{all_owed, behind_own, PassesOwed, given_by, WriteMovesBy, OwesOn, own_from, GaveOwn, Starves, KeepsOpen, Closes, IsJoined, LaysOwed}
 use Rattle.py_read_text.proofs.Owing.{has_own, passes_then, passes_behind, open_then, owing_then}
 use Rattle.py_read_text.specs.Ahead.{AsksAsNeeded, starts_at, ReadsNoFurther}
-use Rattle.py_read_text.specs.Answers.{calls_nothing, passes_on, gives_text, LifeMoves, PlaceMoves, WriteMoves, settings_after, IsReplyTo, WantsMemory, closes_again, TextPasses, Answers}
+use Rattle.py_read_text.specs.Answers.{calls_nothing, passes_on, gives_text, LifeMoves, PlaceMoves, WriteMoves, settings_after, IsReplyTo, WantsMemory, closes_again, TextPasses, MovesByOwn, Answers}
 use Rattle.py_read_text.specs.Knowing.{place_of}
 use Rattle.py_textio.specs.Written.{WrittenView, behind_owed, place_now, over_of, state_of, file_now, CallsBuffer, HandsOnBut, HandsOn, SettleOutcome}
 use Rattle.py_textio.specs.Working.{Works}
@@ -66,6 +66,30 @@ handed_file old mid waited faulted hands current = λ told. same_file old mid ha
 
 same_writes : (old mid : WrittenView) → mid.text.buffer.can ≡ old.text.buffer.can → mid.text.buffer.can.writable ≡ old.text.buffer.can.writable
 same_writes old mid can = ap (λ (abilities : Abilities). abilities.writable) can
+
+-- Where the buffer stands.
+
+-- a call that leaves all as it was
+pub stays_put : (call : TextFileCall) (text : TextOver Buffer) → MovesByOwn call text text
+stays_put Flush text = refl
+stays_put Close text = refl
+stays_put Detach text = refl
+stays_put call text = tt
+
+-- a call behind one that left the place behind what the text itself owed
+pub moves_on : (call : TextFileCall) (old mid new : TextOver Buffer) → behind_own mid ≡ behind_own old → MovesByOwn call mid new → MovesByOwn call old new
+moves_on Flush old mid new same moves = moves ∙ same
+moves_on Close old mid new same moves = moves ∙ same
+moves_on Detach old mid new same moves = moves ∙ same
+moves_on call old mid new same moves = tt
+
+behind_at : (place : TextPlace) (owed : List ℕ) → (behind_owed place owed).at ≡ place.at + length owed
+behind_at place [] = omega arith
+behind_at place (byte ∷ more) = omega arith
+
+-- a text that stays as it is, and that read up to where its buffer stands: the place behind what it owes itself stays
+pub behind_still : (old new : WrittenView) → old.text.at ≡ old.text.buffer.place → new.text.at ≡ new.text.buffer.place → place_now new ≡ place_now old → behind_own (over_of new) ≡ behind_own (over_of old)
+behind_still old new stood there place = omega (arith, stood, there, behind_at (place_of old.text) old.pending, behind_at (place_of new.text) new.pending, ap (λ (own : TextPlace). own.at) place)
 
 -- a call behind what handed on of a text that owed something is a call of that text
 -- What is owed, by two calls.
@@ -122,8 +146,8 @@ needs_over old mid new call short hands current stood there needs told =
     (subst (λ (settings : TextSettings). AsksAsNeeded (file_now mid) call settings.chunk_size (starts_at (state_of old false)) new.text.buffer.place) hands.settings
     (subst (λ (at : ℕ). AsksAsNeeded (file_now mid) call mid.text.settings.chunk_size at new.text.buffer.place) start (needs (tells_still old.text.buffer.raw mid.text.buffer.raw hands.calls.keeps.raw ∙ told))))
 
-pub answers_over : (old mid : WrittenView) (call : TextFileCall) (reply : FileReply) (new : WrittenView) (short : Bool) → IsJoined (over_of old) → IsJoined (over_of mid) → old.text.buffer.can.writable ≡ true → old.life ≡ life.Live → mid.life ≡ life.Live → HandsOn old false false mid → mid.pending ≡ [] → passes_on old.pending call ≡ true → old.pending ≢ [] → calls_nothing call ≡ false → closes_again life.Live call ≡ false → refusal (file_now old) call ≡ None → (refusal (file_now mid) call ≡ None) → WriteMoves old.text.settings call reply (place_now old) (place_now new) → TextPasses (state_of old false) call reply (state_of new short) → WantsMemory call reply old.text.buffer → Closes old.life call old.text.buffer reply new.text.buffer → (gives_text call ≡ true → ReadsNoFurther (state_of old false) call (state_of new short)) → Answers (state_of mid false) call reply (state_of new short) → Works old call reply new short
-answers_over old mid call reply new short was is writes live lives hands none busy owes some once accepted still written passes wants closes needs answers =
+pub answers_over : (old mid : WrittenView) (call : TextFileCall) (reply : FileReply) (new : WrittenView) (short : Bool) → IsJoined (over_of old) → IsJoined (over_of mid) → old.text.buffer.can.writable ≡ true → old.life ≡ life.Live → mid.life ≡ life.Live → old.text.at ≡ old.text.buffer.place → mid.text.at ≡ mid.text.buffer.place → HandsOn old false false mid → mid.pending ≡ [] → passes_on old.pending call ≡ true → old.pending ≢ [] → calls_nothing call ≡ false → closes_again life.Live call ≡ false → refusal (file_now old) call ≡ None → (refusal (file_now mid) call ≡ None) → WriteMoves old.text.settings call reply (place_now old) (place_now new) → TextPasses (state_of old false) call reply (state_of new short) → WantsMemory call reply old.text.buffer → Closes old.life call old.text.buffer reply new.text.buffer → (gives_text call ≡ true → ReadsNoFurther (state_of old false) call (state_of new short)) → Answers (state_of mid false) call reply (state_of new short) → Works old call reply new short
+answers_over old mid call reply new short was is writes live lives stood there hands none busy owes some once accepted still written passes wants closes needs answers =
     let can : mid.text.buffer.can ≡ old.text.buffer.can = hands.calls.keeps.can in
     let current : mid.life ≡ old.life = lives ∙ sym live in
     let mid_writes : mid.text.buffer.can.writable ≡ true = same_writes old mid can ∙ writes in
@@ -164,6 +188,7 @@ answers_over old mid call reply new short was is writes live lives hands none bu
       needs = needs;
       hides = λ is gives none. let hidden = answers.hides is gives none in record { empty = hidden.empty; shows = λ told. hidden.shows (tells_still old.text.buffer.raw mid.text.buffer.raw hands.calls.keeps.raw ∙ told) };
       passes = passes;
+      by_own = moves_on call (over_of old) (over_of mid) (over_of new) (behind_still old mid stood there hands.place) answers.by_own;
       kept = answers.kept;
     }
 
@@ -201,7 +226,7 @@ pub read_over : (old mid new : WrittenView) (asked : Wanted) (reply : FileReply)
 read_over old mid new asked reply short was is writes live stood there owes can some outcome answers =
     let hands = outcome.0 in
     let still : mid.text.buffer.can.readable ≡ true = ap (λ (own : Abilities). own.readable) hands.calls.keeps.can ∙ can in
-    answers_work old (call_of asked) reply new short (answers_over old mid (call_of asked) reply new short was is writes live outcome.2 hands outcome.1 (busy_read old.pending asked owes) owes (some_read asked some) (once_read asked) (accepts (file_now old) asked live can) (accepts (file_now mid) asked outcome.2 still) (unwritten_read asked old.text.settings reply (place_now old) (place_now new)) (unpassed_read asked (state_of old false) reply (state_of new short)) (unwanted_read asked reply old.text.buffer) (unclosed_read asked old.life old.text.buffer reply new.text.buffer) (λ gives. needs_over old mid new (call_of asked) short hands (outcome.2 ∙ sym live) stood there (answers.needs gives)) answers)
+    answers_work old (call_of asked) reply new short (answers_over old mid (call_of asked) reply new short was is writes live outcome.2 stood there hands outcome.1 (busy_read old.pending asked owes) owes (some_read asked some) (once_read asked) (accepts (file_now old) asked live can) (accepts (file_now mid) asked outcome.2 still) (unwritten_read asked old.text.settings reply (place_now old) (place_now new)) (unpassed_read asked (state_of old false) reply (state_of new short)) (unwanted_read asked reply old.text.buffer) (unclosed_read asked old.life old.text.buffer reply new.text.buffer) (λ gives. needs_over old mid new (call_of asked) short hands (outcome.2 ∙ sym live) stood there (answers.needs gives)) answers)
 
 busy_other : (owed : List ℕ) (call : TextFileCall) → owed ≢ [] → passes_on owed call ≡ true
 busy_other [] call some = absurd (some refl)
@@ -224,12 +249,12 @@ passes_close old mid reply after lives passes = grind arith
 passes_flush : (old mid : TextState) (reply : FileReply) (after : TextState) → TextPasses mid Flush reply after → TextPasses old Flush reply after
 passes_flush old mid reply after passes = grind arith
 
-pub flush_over : (old mid new : WrittenView) (reply : FileReply) (short : Bool) → IsJoined (over_of old) → IsJoined (over_of mid) → old.text.buffer.can.writable ≡ true → old.life ≡ life.Live → old.pending ≢ [] → SettleOutcome old (Ok tt) mid → Answers (state_of mid false) Flush reply (state_of new short) → Answers (state_of old false) Flush reply (state_of new short)
-flush_over old mid new reply short was is writes live owes outcome answers =
+pub flush_over : (old mid new : WrittenView) (reply : FileReply) (short : Bool) → IsJoined (over_of old) → IsJoined (over_of mid) → old.text.buffer.can.writable ≡ true → old.life ≡ life.Live → old.text.at ≡ old.text.buffer.place → mid.text.at ≡ mid.text.buffer.place → old.pending ≢ [] → SettleOutcome old (Ok tt) mid → Answers (state_of mid false) Flush reply (state_of new short) → Answers (state_of old false) Flush reply (state_of new short)
+flush_over old mid new reply short was is writes live stood there owes outcome answers =
     let hands = outcome.0 in
-    answers_work old Flush reply new short (answers_over old mid Flush reply new short was is writes live outcome.2 hands outcome.1 (busy_other old.pending Flush owes) owes refl refl (rw live refl) (rw outcome.2 refl) tt (passes_flush (state_of old false) (state_of mid false) reply (state_of new short) answers.passes) (wants_flush old.text.buffer mid.text.buffer reply hands.calls.keeps answers.wants) tt (λ gives. absurd (cc)) answers)
+    answers_work old Flush reply new short (answers_over old mid Flush reply new short was is writes live outcome.2 stood there hands outcome.1 (busy_other old.pending Flush owes) owes refl refl (rw live refl) (rw outcome.2 refl) tt (passes_flush (state_of old false) (state_of mid false) reply (state_of new short) answers.passes) (wants_flush old.text.buffer mid.text.buffer reply hands.calls.keeps answers.wants) tt (λ gives. absurd (cc)) answers)
 
-pub close_over : (old mid new : WrittenView) (reply : FileReply) (short : Bool) → IsJoined (over_of old) → IsJoined (over_of mid) → old.text.buffer.can.writable ≡ true → old.life ≡ life.Live → old.pending ≢ [] → SettleOutcome old (Ok tt) mid → Answers (state_of mid false) Close reply (state_of new short) → Answers (state_of old false) Close reply (state_of new short)
-close_over old mid new reply short was is writes live owes outcome answers =
+pub close_over : (old mid new : WrittenView) (reply : FileReply) (short : Bool) → IsJoined (over_of old) → IsJoined (over_of mid) → old.text.buffer.can.writable ≡ true → old.life ≡ life.Live → old.text.at ≡ old.text.buffer.place → mid.text.at ≡ mid.text.buffer.place → old.pending ≢ [] → SettleOutcome old (Ok tt) mid → Answers (state_of mid false) Close reply (state_of new short) → Answers (state_of old false) Close reply (state_of new short)
+close_over old mid new reply short was is writes live stood there owes outcome answers =
     let hands = outcome.0 in
-    answers_work old Close reply new short (answers_over old mid Close reply new short was is writes live outcome.2 hands outcome.1 (busy_other old.pending Close owes) owes refl refl (rw live refl) (rw outcome.2 refl) tt (passes_close (state_of old false) (state_of mid false) reply (state_of new short) outcome.2 answers.passes) (wants_close old.text.buffer mid.text.buffer reply hands.calls.keeps answers.wants) (closes_behind mid.life old.life reply old.text.buffer mid.text.buffer new.text.buffer outcome.2 hands.stays answers.closes) (λ gives. absurd (cc)) answers)
+    answers_work old Close reply new short (answers_over old mid Close reply new short was is writes live outcome.2 stood there hands outcome.1 (busy_other old.pending Close owes) owes refl refl (rw live refl) (rw outcome.2 refl) tt (passes_close (state_of old false) (state_of mid false) reply (state_of new short) outcome.2 answers.passes) (wants_close old.text.buffer mid.text.buffer reply hands.calls.keeps answers.wants) (closes_behind mid.life old.life reply old.text.buffer mid.text.buffer new.text.buffer outcome.2 hands.stays answers.closes) (λ gives. absurd (cc)) answers)

@@ -27,6 +27,7 @@ use Rattle.py_read_text.specs.Answers.{IsShort, PlaceMoves, WriteMoves, LifeMove
 use Rattle.py_read_text.specs.Reading.{call_of}
 use Rattle.py_read_text.proofs.Owing.{passes_none, moves_none, owes_none, open_still}
 use Rattle.py_textio.specs.Written.{WrittenView, place_now, over_of, state_of, file_now}
+use Rattle.py_textio.proofs.Over.{stays_put}
 use Rattle.py_read_text.proofs.Fronts.{lays_still}
 
 whole_refused : (why : IoFault) → blames why ≡ false → IsShort (Refused why) false
@@ -129,6 +130,7 @@ refused text was call why is own once joined =
       needs = λ gives told. inl (omega arith);
       hides = λ short. absurd (cc);
       passes = passes_refused (state_of text was) call why (state_of text false);
+      by_own = stays_put call (over_of text);
       kept = keeps_refused call why (state_of text false);
     }
 
@@ -254,6 +256,7 @@ closed_again now text was same is joined =
       needs = λ gives. absurd (cc);
       hides = λ short. absurd (cc);
       passes = λ live. let never : life.Closed ≡ life.Live = sym is ∙ live in absurd (cc);
+      by_own = refl;
       kept = tt;
     })
 
@@ -326,6 +329,7 @@ chunks_so now text new was size same live some joined is =
       needs = λ gives. absurd (cc);
       hides = λ short. absurd (cc);
       passes = tt;
+      by_own = tt;
       kept = tt;
     }))
 
@@ -399,6 +403,7 @@ over_short now text was call reply after same passes answers = subst (λ (before
   hides = λ is gives own. let hidden = answers.hides is gives own in record { empty = hidden.empty; shows = hidden.shows };
   stops = answers.stops;
   passes = passes;
+  by_own = answers.by_own;
   kept = answers.kept;
 })
 

@@ -19,14 +19,14 @@ use Rattle.py_read_text.specs.Owing.{IsJoined, WriteMovesBy, GaveOwn, Starves, K
 use Rattle.py_read_text.proofs.Calling.{Passing, faulted_life, passes_accepted, fails_still, wait_step, fault_step, starve_step}
 use Rattle.py_read_text.proofs.Owing.{owes_none, has_own, owing_open}
 use Rattle.py_read_text.specs.Knowing.{place_of}
-use Rattle.py_read_text.specs.Answers.{calls_nothing, passes_on, gives_text, IsReplyTo, IsComplete, IsShort, PlaceMoves, WriteMoves, LifeMoves, settings_after, closes_again, WantsMemory, TextPasses, TextKeeps, Answers}
+use Rattle.py_read_text.specs.Answers.{calls_nothing, passes_on, IsReplyTo, IsComplete, IsShort, PlaceMoves, WriteMoves, LifeMoves, settings_after, closes_again, WantsMemory, TextPasses, TextKeeps, Answers}
 use Rattle.py_read_text.specs.Reading.{call_of, asks_none}
 use Rattle.py_read_text.proofs.Steps.{accepts, works, waited_by}
 use Rattle.py_read_text.proofs.Results.{faults_step, starves_step}
 use Rattle.py_textio.specs.Written.{WrittenView, place_now, over_of, state_of, file_now, HandsOn, TakesNothing, IsStuffed, SettleOutcome, stopped_reply, with_taken}
 use Rattle.py_textio.specs.Working.{Works}
 use Rattle.py_textio.proofs.Working.{answers_work}
-use Rattle.py_textio.proofs.Over.{reaches_place, handed_file}
+use Rattle.py_textio.proofs.Over.{stays_put, moves_on, behind_still, reaches_place, handed_file}
 use Rattle.py_read_text.proofs.Fronts.{lays_given}
 
 pub not_rose : (before after : ℕ) → Rose before after → rose before after ≡ false → ⊥
@@ -52,12 +52,13 @@ pub record Owes (old : WrittenView) : Type 0 where
   pub writes : old.text.buffer.can.writable ≡ true
   pub live : old.life ≡ life.Live
   pub some : old.pending ≢ []
+  pub stood : old.text.at ≡ old.text.buffer.place
 
 busy_so : (owed : List ℕ) (call : TextFileCall) → owed ≢ [] → passes_on owed call ≡ true
 busy_so [] call some = absurd (some refl)
 busy_so (byte ∷ more) call some = grind arith
 
-pub ends_work : (old : WrittenView) (call : TextFileCall) (reply : FileReply) (new : WrittenView) (short : Bool) → Owes old → Ends call reply short → refusal (file_now old) call ≡ None → HandsOn old short (says_fault reply) new → (gives_text call ≡ true → new.text.at ≡ new.text.buffer.place) → (IsTrue short → (new.pending ≢ []) × IsStuffed new.text.buffer) → LifeMoves true call reply old.life new.life → IsJoined (over_of new) → Starves (over_of old) call reply (over_of new) → WantsMemory call reply old.text.buffer → WhereShown old.text.buffer (TextFileStep (file_now old) call reply short (says_fault reply) (file_now new)) → Works old call reply new short
+pub ends_work : (old : WrittenView) (call : TextFileCall) (reply : FileReply) (new : WrittenView) (short : Bool) → Owes old → Ends call reply short → refusal (file_now old) call ≡ None → HandsOn old short (says_fault reply) new → new.text.at ≡ new.text.buffer.place → (IsTrue short → (new.pending ≢ []) × IsStuffed new.text.buffer) → LifeMoves true call reply old.life new.life → IsJoined (over_of new) → Starves (over_of old) call reply (over_of new) → WantsMemory call reply old.text.buffer → WhereShown old.text.buffer (TextFileStep (file_now old) call reply short (says_fault reply) (file_now new)) → Works old call reply new short
 ends_work old call reply new short owes ends accepted hands there left current joined starves wants told = record {
   accepted = accepted;
   once = ap (λ (own : Life). closes_again own call) owes.live ∙ ends.once;
@@ -83,9 +84,10 @@ ends_work old call reply new short owes ends accepted hands there left current j
   wants = wants;
   shut = λ none. absurd (owes.some none);
   told = told;
-  needs = λ gives told. inl (omega (arith, there gives, reaches_place (place_of new.text) new.pending, ap (λ (place : TextPlace). place.at) hands.place));
+  needs = λ gives told. inl (omega (arith, there, reaches_place (place_of new.text) new.pending, ap (λ (place : TextPlace). place.at) hands.place));
   hides = λ is gives none. absurd ((left is).0 none);
   passes = ends.passes (state_of old false) (state_of new short);
+  by_own = moves_on call (over_of old) (over_of new) (over_of new) (behind_still old new owes.stood there hands.place) (stays_put call (over_of new));
   kept = ends.kept (state_of new short);
 }
   where
@@ -137,32 +139,28 @@ midway_read file after (Line limit) live can writes fails = out_of_memory refl (
 pub read_waits : (old new : WrittenView) (asked : Wanted) → Owes old → old.text.buffer.can.readable ≡ true → asks_none asked ≡ false → HandsOn old true false new → new.text.at ≡ new.text.buffer.place → (new.pending ≢ []) × IsStuffed new.text.buffer → new.life ≡ life.Live → IsJoined (over_of new) → Answers (state_of old false) (call_of asked) NotReady (state_of new true)
 read_waits old new asked owes can some hands there left lives joined =
     let current : new.life ≡ old.life = lives ∙ sym owes.live in
-    answers_work old (call_of asked) NotReady new true (ends_work old (call_of asked) NotReady new true owes (unready_ends asked some) (accepts (file_now old) asked owes.live can) hands (λ gives. there) (λ is. left) (same_life asked NotReady refl old.life new.life current) joined tt (wants_nothing asked NotReady old.text.buffer)
+    answers_work old (call_of asked) NotReady new true (ends_work old (call_of asked) NotReady new true owes (unready_ends asked some) (accepts (file_now old) asked owes.live can) hands there (λ is. left) (same_life asked NotReady refl old.life new.life current) joined tt (wants_nothing asked NotReady old.text.buffer)
     (λ told. waited_for refl (works (file_now old) asked owes.live can, waited_by (file_now old) asked NotReady (file_now new) (inl (refl, handed_file old new true false hands current told)))))
 
 pub read_fails : (old new : WrittenView) (asked : Wanted) → Owes old → old.text.buffer.can.readable ≡ true → asks_none asked ≡ false → HandsOn old false true new → new.text.at ≡ new.text.buffer.place → new.life ≡ life.Failed → IsJoined (over_of new) → Answers (state_of old false) (call_of asked) (Refused fault.RawFault) (state_of new false)
 read_fails old new asked owes can some hands there failed joined =
-    answers_work old (call_of asked) (Refused fault.RawFault) new false (ends_work old (call_of asked) (Refused fault.RawFault) new false owes (fault_ends asked some) (accepts (file_now old) asked owes.live can) hands (λ gives. there) (λ is. absurd (cc)) (failed_life asked old.life new.life failed) joined tt (wants_nothing asked (Refused fault.RawFault) old.text.buffer)
+    answers_work old (call_of asked) (Refused fault.RawFault) new false (ends_work old (call_of asked) (Refused fault.RawFault) new false owes (fault_ends asked some) (accepts (file_now old) asked owes.live can) hands there (λ is. absurd (cc)) (failed_life asked old.life new.life failed) joined tt (wants_nothing asked (Refused fault.RawFault) old.text.buffer)
     (λ told. faults_step (file_now old) (file_now new) asked owes.live can failed (hands.bytes told) hands.calls.keeps.can hands.settings))
 
 pub read_starves : (old new : WrittenView) (asked : Wanted) → Owes old → old.text.buffer.can.readable ≡ true → asks_none asked ≡ false → HandsOn old false false new → new.text.at ≡ new.text.buffer.place → (new.life ≡ life.Live) ⊎ ((new.life ≡ life.Failed) × GaveOwn (over_of old) (over_of new)) → IsJoined (over_of new) → Answers (state_of old false) (call_of asked) (Refused fault.NoMemory) (state_of new false)
 read_starves old new asked owes can some hands there (inl lives) joined =
     let current : new.life ≡ old.life = lives ∙ sym owes.live in
-    answers_work old (call_of asked) (Refused fault.NoMemory) new false (ends_work old (call_of asked) (Refused fault.NoMemory) new false owes (memory_ends asked some) (accepts (file_now old) asked owes.live can) hands (λ gives. there) (λ is. absurd (cc)) (inl current) joined (starved_not old new (call_of asked) hands current) (wants_nothing asked (Refused fault.NoMemory) old.text.buffer)
+    answers_work old (call_of asked) (Refused fault.NoMemory) new false (ends_work old (call_of asked) (Refused fault.NoMemory) new false owes (memory_ends asked some) (accepts (file_now old) asked owes.live can) hands there (λ is. absurd (cc)) (inl current) joined (starved_not old new (call_of asked) hands current) (wants_nothing asked (Refused fault.NoMemory) old.text.buffer)
     (λ told. starves_step (file_now old) (file_now new) asked owes.live can (handed_file old new false false hands current told)))
 read_starves old new asked owes can some hands there (inr failed) joined =
-    answers_work old (call_of asked) (Refused fault.NoMemory) new false (ends_work old (call_of asked) (Refused fault.NoMemory) new false owes (memory_ends asked some) (accepts (file_now old) asked owes.live can) hands (λ gives. there) (λ is. absurd (cc)) (inr (refl, failed.0)) joined (inr (failed.0, has_own (over_of old) (call_of asked) owes.some, failed.1)) (wants_nothing asked (Refused fault.NoMemory) old.text.buffer)
+    answers_work old (call_of asked) (Refused fault.NoMemory) new false (ends_work old (call_of asked) (Refused fault.NoMemory) new false owes (memory_ends asked some) (accepts (file_now old) asked owes.live can) hands there (λ is. absurd (cc)) (inr (refl, failed.0)) joined (inr (failed.0, has_own (over_of old) (call_of asked) owes.some, failed.1)) (wants_nothing asked (Refused fault.NoMemory) old.text.buffer)
     (λ told. midway_read (file_now old) (file_now new) asked owes.live can owes.writes (fails_still (file_now old) (file_now new) life.Failed failed.0 (hands.bytes told) hands.calls.keeps.can hands.settings)))
 
 -- Flushing and closing.
 
-passing_gives : (closes : Bool) {Fact : Type 0} → gives_text (Passing closes) ≡ true → Fact
-passing_gives true gives = absurd (cc)
-passing_gives false gives = absurd (cc)
-
 wait_ends : (closes : Bool) → Ends (Passing closes) (Refused (fault.WouldBlock 0)) true
-wait_ends true = record { once = refl; some = refl; shorts = refl; settings = λ own. refl; place = λ own end. refl; written = λ settings own. tt; answer = refl; calm = λ is fails. absurd (cc); passes = λ before after. tt; kept = λ after. tt; moves = λ from to. tt; closes = λ current before after kept. tt }
-wait_ends false = record { once = refl; some = refl; shorts = refl; settings = λ own. refl; place = λ own end. refl; written = λ settings own. tt; answer = refl; calm = λ is fails. absurd (cc); passes = λ before after. tt; kept = λ after. tt; moves = λ from to. tt; closes = λ current before after kept. tt }
+wait_ends true = record { once = refl; some = refl; shorts = refl; settings = λ own. refl; place = λ own end. refl; written = λ settings own. tt; answer = (refl, refl); calm = λ is fails. absurd (cc); passes = λ before after. tt; kept = λ after. tt; moves = λ from to. tt; closes = λ current before after kept. tt }
+wait_ends false = record { once = refl; some = refl; shorts = refl; settings = λ own. refl; place = λ own end. refl; written = λ settings own. tt; answer = (refl, refl); calm = λ is fails. absurd (cc); passes = λ before after. tt; kept = λ after. tt; moves = λ from to. tt; closes = λ current before after kept. tt }
 
 passing_faults : (closes : Bool) → Ends (Passing closes) (Refused fault.RawFault) false
 passing_faults true = record { once = refl; some = refl; shorts = refl; settings = λ own. refl; place = λ own end. refl; written = λ settings own. tt; answer = tt; calm = λ is fails. absurd (cc); passes = λ before after. tt; kept = λ after. tt; moves = λ from to. tt; closes = λ current before after kept. kept.attached }
@@ -192,24 +190,24 @@ fault_wants : (closes : Bool) (buffer : Buffer) → WantsMemory (Passing closes)
 fault_wants true buffer = tt
 fault_wants false buffer = tt
 
-pub passing_blocked : (old new : WrittenView) (closes : Bool) → Owes old → HandsOn old true false new → (new.pending ≢ []) × IsStuffed new.text.buffer → new.life ≡ life.Live → IsJoined (over_of new) → Answers (state_of old false) (Passing closes) (Refused (fault.WouldBlock 0)) (state_of new true)
-passing_blocked old new closes owes hands left lives joined =
+pub passing_blocked : (old new : WrittenView) (closes : Bool) → Owes old → HandsOn old true false new → new.text.at ≡ new.text.buffer.place → (new.pending ≢ []) × IsStuffed new.text.buffer → new.life ≡ life.Live → IsJoined (over_of new) → Answers (state_of old false) (Passing closes) (Refused (fault.WouldBlock 0)) (state_of new true)
+passing_blocked old new closes owes hands there left lives joined =
     let current : new.life ≡ old.life = lives ∙ sym owes.live in
-    answers_work old (Passing closes) (Refused (fault.WouldBlock 0)) new true (ends_work old (Passing closes) (Refused (fault.WouldBlock 0)) new true owes (wait_ends closes) (passes_accepted (file_now old) closes owes.live) hands (λ gives. passing_gives closes gives) (λ is. left) (passing_waits closes old.life new.life current) joined tt (wait_wants closes old.text.buffer)
+    answers_work old (Passing closes) (Refused (fault.WouldBlock 0)) new true (ends_work old (Passing closes) (Refused (fault.WouldBlock 0)) new true owes (wait_ends closes) (passes_accepted (file_now old) closes owes.live) hands there (λ is. left) (passing_waits closes old.life new.life current) joined tt (wait_wants closes old.text.buffer)
     (λ told. wait_step (file_now old) (file_now new) closes owes.live (handed_file old new true false hands current told)))
 
-pub passing_failed : (old new : WrittenView) (closes : Bool) → Owes old → HandsOn old false true new → new.life ≡ faulted_life closes → IsJoined (over_of new) → Answers (state_of old false) (Passing closes) (Refused fault.RawFault) (state_of new false)
-passing_failed old new closes owes hands failed joined =
-    answers_work old (Passing closes) (Refused fault.RawFault) new false (ends_work old (Passing closes) (Refused fault.RawFault) new false owes (passing_faults closes) (passes_accepted (file_now old) closes owes.live) hands (λ gives. passing_gives closes gives) (λ is. absurd (cc)) (passing_life closes old.life new.life failed) joined tt (fault_wants closes old.text.buffer)
+pub passing_failed : (old new : WrittenView) (closes : Bool) → Owes old → HandsOn old false true new → new.text.at ≡ new.text.buffer.place → new.life ≡ faulted_life closes → IsJoined (over_of new) → Answers (state_of old false) (Passing closes) (Refused fault.RawFault) (state_of new false)
+passing_failed old new closes owes hands there failed joined =
+    answers_work old (Passing closes) (Refused fault.RawFault) new false (ends_work old (Passing closes) (Refused fault.RawFault) new false owes (passing_faults closes) (passes_accepted (file_now old) closes owes.live) hands there (λ is. absurd (cc)) (passing_life closes old.life new.life failed) joined tt (fault_wants closes old.text.buffer)
     (λ told. fault_step (file_now old) (file_now new) closes owes.live (fails_still (file_now old) (file_now new) (faulted_life closes) failed (hands.bytes told) hands.calls.keeps.can hands.settings)))
 
-pub passing_starved : (old new : WrittenView) (closes : Bool) → Owes old → HandsOn old false false new → IsTrue old.text.buffer.raw.takes_memory → (new.life ≡ life.Live) ⊎ ((new.life ≡ life.Failed) × GaveOwn (over_of old) (over_of new)) → IsJoined (over_of new) → Answers (state_of old false) (Passing closes) (Refused fault.NoMemory) (state_of new false)
-passing_starved old new closes owes hands takes (inl lives) joined =
+pub passing_starved : (old new : WrittenView) (closes : Bool) → Owes old → HandsOn old false false new → new.text.at ≡ new.text.buffer.place → IsTrue old.text.buffer.raw.takes_memory → (new.life ≡ life.Live) ⊎ ((new.life ≡ life.Failed) × GaveOwn (over_of old) (over_of new)) → IsJoined (over_of new) → Answers (state_of old false) (Passing closes) (Refused fault.NoMemory) (state_of new false)
+passing_starved old new closes owes hands there takes (inl lives) joined =
     let current : new.life ≡ old.life = lives ∙ sym owes.live in
-    answers_work old (Passing closes) (Refused fault.NoMemory) new false (ends_work old (Passing closes) (Refused fault.NoMemory) new false owes (passing_starves closes) (passes_accepted (file_now old) closes owes.live) hands (λ gives. passing_gives closes gives) (λ is. absurd (cc)) (inl current) joined (starved_not old new (Passing closes) hands current) (wants_raw closes old.text.buffer takes)
+    answers_work old (Passing closes) (Refused fault.NoMemory) new false (ends_work old (Passing closes) (Refused fault.NoMemory) new false owes (passing_starves closes) (passes_accepted (file_now old) closes owes.live) hands there (λ is. absurd (cc)) (inl current) joined (starved_not old new (Passing closes) hands current) (wants_raw closes old.text.buffer takes)
     (λ told. starve_step (file_now old) (file_now new) closes owes.live (inl (handed_file old new false false hands current told))))
-passing_starved old new closes owes hands takes (inr failed) joined =
-    answers_work old (Passing closes) (Refused fault.NoMemory) new false (ends_work old (Passing closes) (Refused fault.NoMemory) new false owes (passing_starves closes) (passes_accepted (file_now old) closes owes.live) hands (λ gives. passing_gives closes gives) (λ is. absurd (cc)) (inr (refl, failed.0)) joined (inr (failed.0, has_own (over_of old) (Passing closes) owes.some, failed.1)) (wants_raw closes old.text.buffer takes)
+passing_starved old new closes owes hands there takes (inr failed) joined =
+    answers_work old (Passing closes) (Refused fault.NoMemory) new false (ends_work old (Passing closes) (Refused fault.NoMemory) new false owes (passing_starves closes) (passes_accepted (file_now old) closes owes.live) hands there (λ is. absurd (cc)) (inr (refl, failed.0)) joined (inr (failed.0, has_own (over_of old) (Passing closes) owes.some, failed.1)) (wants_raw closes old.text.buffer takes)
     (λ told. starve_step (file_now old) (file_now new) closes owes.live (inr (owes.writes, fails_still (file_now old) (file_now new) life.Failed failed.0 (hands.bytes told) hands.calls.keeps.can hands.settings))))
 
 -- By what stopped the handing on.
@@ -227,20 +225,20 @@ read_stops old new asked fault.RawFault owes can some there outcome joined = rea
 read_stops old new asked fault.NoMemory owes can some there outcome joined = read_starves old new asked owes can some outcome.0 there (starved_life old new outcome.2) joined
 read_stops old new asked other owes can some there outcome joined = absurd outcome
 
-pub passing_stops : (old new : WrittenView) (closes : Bool) (why : IoFault) → Owes old → (closes ≡ true → says_fault (Refused why) ≡ false) → SettleOutcome old (Err why) new → IsJoined (over_of new) → Answers (state_of old false) (Passing closes) (Refused (with_taken why 0)) (state_of new (says_wait (Refused (with_taken why 0))))
-passing_stops old new closes (fault.WouldBlock taken) owes sound outcome joined = passing_blocked old new closes owes outcome.0 (outcome.1, outcome.4) outcome.2 joined
-passing_stops old new true fault.RawFault owes sound outcome joined = let never : true ≡ false = sound refl in absurd (cc)
-passing_stops old new false fault.RawFault owes sound outcome joined = passing_failed old new false owes outcome.0 outcome.1 joined
-passing_stops old new closes fault.NoMemory owes sound outcome joined = passing_starved old new closes owes outcome.0 outcome.1 (starved_life old new outcome.2) joined
-passing_stops old new closes other owes sound outcome joined = absurd outcome
+pub passing_stops : (old new : WrittenView) (closes : Bool) (why : IoFault) → Owes old → (closes ≡ true → says_fault (Refused why) ≡ false) → new.text.at ≡ new.text.buffer.place → SettleOutcome old (Err why) new → IsJoined (over_of new) → Answers (state_of old false) (Passing closes) (Refused (with_taken why 0)) (state_of new (says_wait (Refused (with_taken why 0))))
+passing_stops old new closes (fault.WouldBlock taken) owes sound there outcome joined = passing_blocked old new closes owes outcome.0 there (outcome.1, outcome.4) outcome.2 joined
+passing_stops old new true fault.RawFault owes sound there outcome joined = let never : true ≡ false = sound refl in absurd (cc)
+passing_stops old new false fault.RawFault owes sound there outcome joined = passing_failed old new false owes outcome.0 there outcome.1 joined
+passing_stops old new closes fault.NoMemory owes sound there outcome joined = passing_starved old new closes owes outcome.0 there outcome.1 (starved_life old new outcome.2) joined
+passing_stops old new closes other owes sound there outcome joined = absurd outcome
 
 -- a close whose handing on the raw failed
-pub close_fails : (old mid new : WrittenView) (why : IoFault) → Owes old → says_fault (Refused why) ≡ true → SettleOutcome old (Err why) mid → IsJoined (over_of mid) → new ≡ record mid { life = life.Closed } → Answers (state_of old false) Close (Refused fault.RawFault) (state_of new false)
-close_fails old mid new fault.RawFault owes fails outcome joined is =
+pub close_fails : (old mid new : WrittenView) (why : IoFault) → Owes old → says_fault (Refused why) ≡ true → mid.text.at ≡ mid.text.buffer.place → SettleOutcome old (Err why) mid → IsJoined (over_of mid) → new ≡ record mid { life = life.Closed } → Answers (state_of old false) Close (Refused fault.RawFault) (state_of new false)
+close_fails old mid new fault.RawFault owes fails there outcome joined is =
     subst (λ (view : WrittenView). Answers (state_of old false) Close (Refused fault.RawFault) (state_of view false)) (sym is)
-    (passing_failed old (closed_of mid) true owes (record { calls = outcome.0.calls; bytes = outcome.0.bytes; place = outcome.0.place; settings = outcome.0.settings; owes = outcome.0.owes; lays = outcome.0.lays; stays = outcome.0.stays }) refl joined)
-close_fails old mid new why owes fails outcome joined is = absurd (cc)
+    (passing_failed old (closed_of mid) true owes (record { calls = outcome.0.calls; bytes = outcome.0.bytes; place = outcome.0.place; settings = outcome.0.settings; owes = outcome.0.owes; lays = outcome.0.lays; stays = outcome.0.stays }) there refl joined)
+close_fails old mid new why owes fails there outcome joined is = absurd (cc)
 
 -- a close that had to wait, or ran out of memory, before its buffer was asked to close
-pub close_stops : (old new : WrittenView) (why : IoFault) → Owes old → says_fault (Refused why) ≡ false → SettleOutcome old (Err why) new → IsJoined (over_of new) → Answers (state_of old false) Close (Refused (with_taken why 0)) (state_of new (says_wait (Refused (with_taken why 0))))
-close_stops old new why owes sound outcome joined = passing_stops old new true why owes (λ closes. sound) outcome joined
+pub close_stops : (old new : WrittenView) (why : IoFault) → Owes old → says_fault (Refused why) ≡ false → new.text.at ≡ new.text.buffer.place → SettleOutcome old (Err why) new → IsJoined (over_of new) → Answers (state_of old false) Close (Refused (with_taken why 0)) (state_of new (says_wait (Refused (with_taken why 0))))
+close_stops old new why owes sound there outcome joined = passing_stops old new true why owes (λ closes. sound) there outcome joined

@@ -40,5 +40,6 @@ answers_work old call reply new short works = record {
   needs = works.needs;
   hides = λ is gives none. works.hides is gives none;
   passes = works.passes;
+  by_own = works.by_own;
   kept = works.kept;
 }

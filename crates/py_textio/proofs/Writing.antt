@@ -134,6 +134,7 @@ wrote old new text count may took lives joined counts few passed =
       needs = λ gives. absurd (cc);
       hides = λ is. absurd (cc);
       passes = passed;
+      by_own = tt;
       kept = few;
     })
 
@@ -168,6 +169,7 @@ wrote_blocked old new text taken may took lives joined counts stops =
       needs = λ gives. absurd (cc);
       hides = λ is gives. absurd (cc);
       passes = tt;
+      by_own = tt;
       kept = tt;
     })
 
@@ -202,6 +204,7 @@ wrote_failed old new text may took failed joined =
       needs = λ gives. absurd (cc);
       hides = λ is. absurd (cc);
       passes = tt;
+      by_own = tt;
       kept = tt;
     })
   where
@@ -239,6 +242,7 @@ wrote_starved old new text may took failed has gave joined =
       needs = λ gives. absurd (cc);
       hides = λ is. absurd (cc);
       passes = tt;
+      by_own = tt;
       kept = tt;
     })
 
@@ -278,6 +282,7 @@ unwritten_failed old new text may hands failed joined =
       needs = λ gives. absurd (cc);
       hides = λ is. absurd (cc);
       passes = tt;
+      by_own = tt;
       kept = tt;
     })
 
@@ -312,6 +317,7 @@ unwritten_starved old new text may hands lives joined =
       needs = λ gives. absurd (cc);
       hides = λ is. absurd (cc);
       passes = tt;
+      by_own = tt;
       kept = tt;
     })
 

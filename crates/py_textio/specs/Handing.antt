@@ -15,7 +15,7 @@ use Rattle.py_stream.specs.Stream.{detached_stream}
 use Rattle.py_stream.specs.Replies.{done_reply}
 use Rattle.py_stream.specs.Buffer.{Buffer, size_shown, buffer_of}
 use Rattle.py_read_text.specs.TextState.{TextState, settings_of}
-use Rattle.py_read_text.specs.Owing.{IsJoined}
+use Rattle.py_read_text.specs.Owing.{behind_own, IsJoined}
 use Rattle.py_read_text.specs.Answers.{Answers}
 use Rattle.py_textio.specs.declared.text_detached.TextDetached.{TextDetached}
 use Rattle.py_textio.specs.declared.text_left.TextLeft.{TextLeft}
@@ -61,6 +61,8 @@ pub record HandsOver (old : TextState) (buffer : Buffer) (unwritten : List ℕ) 
   pub place_is : place ≡ place_handed old.text unwritten
   pub at_once : old.text.life ≡ life.Failed → buffer ≡ old.text.buffer
   pub lives : old.text.life ≡ life.Live → buffer.life ≡ life.Live
+  -- that of a live text isn't moved but behind the bytes that the text itself owed: without any it stands where it stood
+  pub stands : old.text.life ≡ life.Live → buffer.place ≡ behind_own old.text
   pub left : new ≡ left_behind old.text
 
 -- a detaching that is refused; that of a failed text never is

@@ -8,7 +8,7 @@ use Rattle.py_plain_text.specs.TextAllowed.{TextFileStep}
 use Rattle.py_stream.specs.Kinds.{says_fault}
 use Rattle.py_stream.specs.Buffer.{WhereShown}
 use Rattle.py_read_text.specs.Ahead.{ReadsNoFurther}
-use Rattle.py_read_text.specs.Answers.{calls_nothing, passes_on, gives_text, IsReplyTo, IsComplete, IsShort, PlaceMoves, WriteMoves, LifeMoves, settings_after, closes_again, WantsMemory, ClosesWithRaw, HidesNothing, TextPasses, TextKeeps}
+use Rattle.py_read_text.specs.Answers.{calls_nothing, passes_on, gives_text, IsReplyTo, IsComplete, IsShort, PlaceMoves, WriteMoves, LifeMoves, settings_after, closes_again, WantsMemory, ClosesWithRaw, HidesNothing, TextPasses, MovesByOwn, TextKeeps}
 use Rattle.py_read_text.specs.Owing.{all_owed, IsJoined, given_by, OwesOn, LaysOwed, Starves, StopsOwing, KeepsOpen, StaysWhileOwing, may_close, Closes}
 use Rattle.py_textio.specs.Written.{WrittenView, place_now, over_of, state_of, file_now, CallsBuffer}
 
@@ -36,6 +36,7 @@ pub record Works (old : WrittenView) (call : TextFileCall) (reply : FileReply) (
   pub stays : may_close call reply ≡ false → KeepsOpen old.text.buffer new.text.buffer
   pub unclosed : StaysWhileOwing old.text.buffer (over_of new)
   pub stops : IsTrue short → StopsOwing (gives_text call) (over_of new)
+  pub by_own : MovesByOwn call (over_of old) (over_of new)
   -- what was answered
   pub answer : IsReplyTo true call reply
   pub complete : rose old.text.buffer.raw.waits new.text.buffer.raw.waits ≡ false → rose old.text.buffer.raw.faults new.text.buffer.raw.faults ≡ false → IsComplete call reply short

@@ -196,8 +196,8 @@ impl<B: BufferedStream> TextIOWrapper<B> {
 
     /// Hands the buffer back, as Python's `detach` does: of a live text once all that was written was passed on, as by `flush`, so that
     /// nothing is unwritten; of a failed one at once, with the bytes that the buffer hasn't, and no raw is called. The place comes with it,
-    /// as from `into_parts`; the buffer isn't moved. From then on the getters tell what the text could do and its settings, and every other
-    /// call is `Detached`.
+    /// as from `into_parts`; the buffer isn't moved, but by what it takes of the text. From then on the getters tell what the text could do
+    /// and its settings, and every other call is `Detached`.
     ///
     /// `WouldBlock`: the raw would have blocked before all was passed on, and the text stays live. `RawFault`: the text is failed, and may be
     /// detached as such. `NoMemory` comes only of a raw that takes memory; the text stays live, or is failed where memory ran out while its

@@ -7,4 +7,4 @@ returns-in-Ok g c = read_over c.args.self.now c.settle.new.self c.read_on.new.se
 
 pub returns-in-Err : goal.returns-in-Err
 returns-in-Err g c =
-    rw (c.unready.ensures.reply, c.unready.ensures.waits) (read_stops c.args.self.now c.settle.new.self c.args.wanted c.in-Err.fault (record { writes = c.in-Err.ensures.writes; live = c.requires.live; some = c.requires.owes }) c.requires.reads c.requires.some c.in-Err.ensures.there c.in-Err.ensures.outcome c.in-Err.ensures.joined)
+    rw (c.unready.ensures.reply, c.unready.ensures.waits) (read_stops c.args.self.now c.settle.new.self c.args.wanted c.in-Err.fault (record { writes = c.in-Err.ensures.writes; live = c.requires.live; some = c.requires.owes; stood = c.in-Err.ensures.stood }) c.requires.reads c.requires.some c.in-Err.ensures.there c.in-Err.ensures.outcome c.in-Err.ensures.joined)
