@@ -176,7 +176,7 @@ fn no_byte_is_lost_whichever_call_of_the_raw_fails(rt: HostRuntime) -> Result<()
 
 #[test]
 fn no_byte_is_lost_wherever_a_transfer_breaks_off(rt: HostRuntime) -> Result<(), Fail> {
-    for count in 0..40 {
+    for count in 0..90 {
         let plan = broken(rt.alloc(), count)?;
         for closes in [false, true] {
             assert!(rt; made(rt.alloc(), &plan, &[], closes)?.as_slice() == MADE);

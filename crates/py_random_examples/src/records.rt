@@ -103,7 +103,7 @@ fn no_record_is_lost_where_the_raw_fails(rt: HostRuntime) -> Result<(), Fail> {
 #[test]
 fn no_record_is_lost_where_a_transfer_breaks_off(rt: HostRuntime) -> Result<(), Fail> {
     for buffer_size in BUFFER_SIZES {
-        for count in 0..60 {
+        for count in 0..180 {
             let plan = broken(rt.alloc(), count)?;
             let records = all_counted(rt.alloc(), &plan, &[], buffer_size)?;
             assert!(rt; gives(&Ok(records), COUNTED_UP));
