@@ -1,4 +1,5 @@
-//! Times a buffered reader or writer over a file: prints what came, and the best time of some rounds to standard error.
+//! Times a buffered reader or writer over a file, by its own calls and by std's traits: prints what came, and the best time of some
+//! rounds to standard error.
 //!
 //! `bench/buffered` makes the file that is read, runs this program, and does the same by CPython and by Rust's std.
 #![tactic(auto)]
@@ -11,10 +12,11 @@ use py_bench::{Counts, FileTask, best_of};
 use py_buffered::{BufferedReader, BufferedWriter};
 use py_raw::Opener;
 use py_raw_files::FileOpener;
-use reading::Reading;
+use py_std::StdStream;
+use reading::{Reading, read_small, read_small_by_std};
 use std::io;
 use task::Task;
-use writing::write_short;
+use writing::{write_short, write_short_by_std};
 
 /// What Python's `open` takes for its buffer.
 const BUFFER_SIZE: usize = 8192;
@@ -24,14 +26,21 @@ fn read_file(rt: &HostRuntime, reading: Reading, path: &str) -> Option<Counts> {
     let mut opener = FileOpener::new(rt);
     let raw = opener.open_raw(rt.alloc(), path, "rb").ok()?;
     let mut reader = BufferedReader::new(rt.alloc(), raw, BUFFER_SIZE).ok()?;
-    reading.run(rt.alloc(), &mut reader).ok()
+    match reading {
+        Reading::Small => read_small(&mut reader).ok(),
+        Reading::SmallByStd => read_small_by_std(&mut StdStream::new(reader)).ok(),
+        Reading::Asked(asked) => asked.run(rt.alloc(), &mut reader).ok(),
+    }
 }
 
-/// Writes a file; nothing where it can't be written.
-fn write_file(rt: &HostRuntime, path: &str) -> Option<Counts> {
+/// Writes a file, by std's `write` or the writer's own; nothing where it can't be written.
+fn write_file(rt: &HostRuntime, by_std: bool, path: &str) -> Option<Counts> {
     let mut opener = FileOpener::new(rt);
     let raw = opener.open_raw(rt.alloc(), path, "wb").ok()?;
     let mut writer = BufferedWriter::new(rt.alloc(), raw, BUFFER_SIZE).ok()?;
+    if by_std {
+        return write_short_by_std(&mut StdStream::new(writer)).ok();
+    }
     write_short(&mut writer).ok()
 }
 
@@ -39,13 +48,15 @@ fn write_file(rt: &HostRuntime, path: &str) -> Option<Counts> {
 fn once(rt: &HostRuntime, task: Task, path: &str) -> Option<Counts> {
     match task {
         Task::Reads(reading) => read_file(rt, reading, path),
-        Task::Writes => write_file(rt, path),
+        Task::Writes { by_std } => write_file(rt, by_std, path),
     }
 }
 
 fn main(rt: HostRuntime) -> io::Result<()> {
     let Some(asked) = FileTask::from_command_line(&rt, Task::from_word)? else {
-        return rt.println("usage: py_buffered_bench lines|pieces|whole|writes <path> <rounds>");
+        return rt.println(
+            "usage: py_buffered_bench lines|pieces|whole|small|small-by-std|writes|writes-by-std <path> <rounds>",
+        );
     };
     let (counts, best) = best_of(
         &rt,

@@ -2,19 +2,35 @@ use py_bench::Counts;
 use py_buffered::BufferedReader;
 use py_raw::{IoFault, RawStream};
 use std::alloc::Global;
+use std::io;
+use std::io::Read;
 
 /// How much a reader is asked for at once by `Pieces`.
 const PIECE: usize = 65536;
 
+/// How much a reader is asked for at once by `Small` and `SmallByStd`, which read into one space that is kept.
+const SMALL: usize = 64;
+
 /// How a file is read.
 #[derive(Clone, Copy, Debug, PartialEq, Eq)]
 pub(crate) enum Reading {
+    /// Each answer is new bytes.
+    Asked(Asked),
+    /// By `readinto1`.
+    Small,
+    /// By std's `read`.
+    SmallByStd,
+}
+
+/// What is asked for at once.
+#[derive(Clone, Copy, Debug, PartialEq, Eq)]
+pub(crate) enum Asked {
     Lines,
     Pieces,
     Whole,
 }
 
-impl Reading {
+impl Asked {
     /// Reads to the end, and counts the answers that aren't empty.
     pub(crate) fn run<R: RawStream>(
         self,
@@ -24,9 +40,9 @@ impl Reading {
         let mut counts = Counts::new();
         for _ in 0..u64::MAX {
             let answer = match self {
-                Reading::Lines => reader.readline(alloc, None)?,
-                Reading::Pieces => reader.read(alloc, Some(PIECE))?,
-                Reading::Whole => reader.read(alloc, None)?,
+                Asked::Lines => reader.readline(alloc, None)?,
+                Asked::Pieces => reader.read(alloc, Some(PIECE))?,
+                Asked::Whole => reader.read(alloc, None)?,
             };
             let Some(bytes) = answer else {
                 continue;
@@ -38,4 +54,34 @@ impl Reading {
         }
         Ok(counts)
     }
+}
+
+/// Reads to the end into one space, by `readinto1`.
+pub(crate) fn read_small<R: RawStream>(reader: &mut BufferedReader<R>) -> Result<Counts, IoFault> {
+    let mut space = [0u8; SMALL];
+    let mut counts = Counts::new();
+    for _ in 0..u64::MAX {
+        let Some(count) = reader.readinto1(&mut space)? else {
+            continue;
+        };
+        if count == 0 {
+            break;
+        }
+        counts.add(count);
+    }
+    Ok(counts)
+}
+
+/// Reads to the end into one space, by std's `read`.
+pub(crate) fn read_small_by_std<R: Read>(reader: &mut R) -> io::Result<Counts> {
+    let mut space = [0u8; SMALL];
+    let mut counts = Counts::new();
+    for _ in 0..u64::MAX {
+        let count = reader.read(&mut space)?;
+        if count == 0 {
+            break;
+        }
+        counts.add(count);
+    }
+    Ok(counts)
 }

@@ -1,21 +1,24 @@
-use crate::reading::Reading;
+use crate::reading::{Asked, Reading};
 
 /// What is timed.
 #[derive(Clone, Copy, Debug, PartialEq, Eq)]
 pub(crate) enum Task {
     /// A file is read to its end.
     Reads(Reading),
-    /// A file is written anew.
-    Writes,
+    /// A file is written anew, by std's trait or the writer's own calls.
+    Writes { by_std: bool },
 }
 
 impl Task {
     pub(crate) fn from_word(word: &str) -> Option<Self> {
         match word {
-            "lines" => Some(Task::Reads(Reading::Lines)),
-            "pieces" => Some(Task::Reads(Reading::Pieces)),
-            "whole" => Some(Task::Reads(Reading::Whole)),
-            "writes" => Some(Task::Writes),
+            "lines" => Some(Task::Reads(Reading::Asked(Asked::Lines))),
+            "pieces" => Some(Task::Reads(Reading::Asked(Asked::Pieces))),
+            "whole" => Some(Task::Reads(Reading::Asked(Asked::Whole))),
+            "small" => Some(Task::Reads(Reading::Small)),
+            "small-by-std" => Some(Task::Reads(Reading::SmallByStd)),
+            "writes" => Some(Task::Writes { by_std: false }),
+            "writes-by-std" => Some(Task::Writes { by_std: true }),
             _ => None,
         }
     }

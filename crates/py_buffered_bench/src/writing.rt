@@ -1,6 +1,8 @@
 use py_bench::Counts;
 use py_buffered::BufferedWriter;
 use py_raw::{IoFault, RawStream};
+use std::io;
+use std::io::Write;
 
 /// How many writes there are.
 const WRITES: u32 = 2_000_000;
@@ -16,5 +18,15 @@ pub(crate) fn write_short<R: RawStream>(writer: &mut BufferedWriter<R>) -> Resul
     }
     writer.flush()?;
     writer.close()?;
+    Ok(counts)
+}
+
+/// Makes as many by std's `write`, and flushes.
+pub(crate) fn write_short_by_std<W: Write>(writer: &mut W) -> io::Result<Counts> {
+    let mut counts = Counts::new();
+    for _ in 0..WRITES {
+        counts.add(writer.write(LINE)?);
+    }
+    writer.flush()?;
     Ok(counts)
 }

@@ -4,8 +4,10 @@
 mod line_source;
 mod line_value;
 mod reading;
+mod source_lines;
 
 pub use line_source::LineSource;
 pub use line_value::LineValue;
 pub use py_flat::{Chars, Data, IoFault};
 pub use reading::file_readline;
+pub use source_lines::{LineEnds, SourceLines};

@@ -1,7 +1,7 @@
 //! Reads texts beside the plain slow text, in every encoding, by every handler and newline rule, in chunks and through buffers of
-//! many sizes, over raw streams that move a byte at a time, wait before any transfer or fail at any call, and prints how many
-//! answers came; it ends at the first that differs. Before that it runs the cases of the files that are its words. `stdout` has
-//! what must come.
+//! many sizes, over raw streams that move a byte at a time, wait before any transfer or fail at any call, by one call over and over;
+//! and by all calls in turn, through a reader, through a stream that is written too, and in memory. It prints how many answers came,
+//! and ends at the first that differs. Before that it runs the cases of the files that are its words. `stdout` has what must come.
 //!
 //! Nothing here is clever: it is code to be read and trusted, and only its safety is proved.
 #![tactic(auto)]
@@ -13,6 +13,16 @@ mod sweep;
 use anyhow::Result;
 use std::{env, fs};
 use sweep::{Sweep, read_each};
+
+/// The sweeps, in the order in which they are made.
+const SWEEPS: [Sweep; 6] = [
+    Sweep::Sizes,
+    Sweep::Waits,
+    Sweep::Faults,
+    Sweep::Mixed,
+    Sweep::ReadWrite,
+    Sweep::Memory,
+];
 
 /// Runs the cases of a file, and prints each line and what came.
 fn run_file(rt: &HostRuntime, text: &str) -> Result<()> {
@@ -32,7 +42,7 @@ fn main(rt: HostRuntime) -> Result<()> {
         println!(rt; "{path}")?;
         run_file(&rt, str::from_utf8(&bytes)?)?;
     }
-    for which in [Sweep::Sizes, Sweep::Waits, Sweep::Faults] {
+    for which in SWEEPS {
         let counts = read_each(rt.alloc(), which)?;
         println!(rt;
             "{}: {} texts, {} answers, {} short, {} faults",

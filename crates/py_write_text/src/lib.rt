@@ -1,10 +1,12 @@
 //! Whatever text is written to: strings, sinks, and texts over a stream.
 #![tactic(auto)]
 
+mod fmt_writer;
 mod io_writer;
 mod py_writer;
 mod write;
 
+pub use fmt_writer::FmtWriter;
 pub use io_writer::{IoWriter, IoWriterRef};
 pub use py_flat::IoFault;
 pub use py_source_sink::{Failed, Sink};

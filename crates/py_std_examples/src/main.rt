@@ -1,0 +1,32 @@
+//! The examples of docs/ECOSYSTEM.md: each answers a line, which is printed. `stdout` has what must come.
+#![tactic(auto)]
+
+mod coded;
+mod formatting;
+mod lines;
+mod places;
+mod tables;
+mod waits;
+
+use anyhow::Result;
+
+/// A line that an example answers.
+fn print(rt: &HostRuntime, line: Result<String>) -> Result<()> {
+    let line = line?;
+    Ok(rt.println(line.as_str())?)
+}
+
+fn main(rt: HostRuntime) -> Result<()> {
+    let alloc = rt.alloc();
+    print(&rt, tables::copied(alloc))?;
+    print(&rt, tables::moved(alloc))?;
+    print(&rt, waits::read_over_waits(alloc))?;
+    print(&rt, waits::written_over_waits(alloc))?;
+    print(&rt, places::replaced(alloc))?;
+    print(&rt, places::refused(alloc))?;
+    print(&rt, places::pieces(alloc))?;
+    print(&rt, coded::numbers(alloc))?;
+    print(&rt, coded::decoded(alloc))?;
+    print(&rt, lines::dropped(alloc))?;
+    print(&rt, formatting::formatted(alloc))
+}

@@ -1,0 +1,78 @@
+//! Bytes in memory, by std's calls.
+use anyhow::Result;
+use py_buffered::BufferedReader;
+use py_memio::BytesIO;
+use py_raw::RawFlags;
+use py_raw_memory::MemRaw;
+use py_std::StdStream;
+use std::alloc::Global;
+use std::io;
+use std::io::{BufRead, BufReader, Read, Seek, SeekFrom, Write};
+
+/// Bytes are written over, and all are read.
+pub(crate) fn replaced(alloc: Global) -> Result<String> {
+    let mut stream = StdStream::new(BytesIO::new(alloc, b"one two".to_vec(alloc)?));
+    let mut all = String::new(alloc);
+    let counts = lent_replaced(&mut stream, &mut all);
+    shown_replaced(alloc, counts, all.as_str())
+}
+
+/// The calls of `replaced`, of a stream that is lent: a `?` drops nothing of it.
+fn lent_replaced(stream: &mut StdStream<BytesIO>, all: &mut String) -> io::Result<(u64, usize)> {
+    let place = stream.seek(SeekFrom::End(-3))?;
+    stream.write_all(b"three")?;
+    stream.rewind()?;
+    let count = stream.read_to_string(all)?;
+    Ok((place, count))
+}
+
+/// Where the bytes were replaced, and all of them.
+fn shown_replaced(alloc: Global, counts: io::Result<(u64, usize)>, all: &str) -> Result<String> {
+    let (place, count) = counts?;
+    Ok(format!(in alloc; "replaced at {place}: {count} bytes, {all:?}")?)
+}
+
+/// What refuses a write of a reader, and a seek past every place.
+pub(crate) fn refused(alloc: Global) -> Result<String> {
+    let flags = RawFlags::able(true, false, true); // it can be read and moved
+    let raw = MemRaw::new(Vec::new(alloc), flags, Vec::new(alloc), Vec::new(alloc));
+    let mut stream = StdStream::new(BufferedReader::new(alloc, raw, 8)?);
+    let written = stream.write(b"a");
+    let sought = stream.seek(SeekFrom::Start(u64::MAX));
+    shown_refused(alloc, written, sought)
+}
+
+/// What the two errors say.
+fn shown_refused(
+    alloc: Global,
+    written: io::Result<usize>,
+    sought: io::Result<u64>,
+) -> Result<String> {
+    match (written, sought) {
+        (Err(write), Err(seek)) => Ok(format!(in alloc; "refused: {write}; {seek}")?),
+        _ => Ok(String::from_str(alloc, "refused: no")?),
+    }
+}
+
+/// Bytes are read up to a byte, through a buffer of std's.
+pub(crate) fn pieces(alloc: Global) -> Result<String> {
+    let stream = StdStream::new(BytesIO::new(alloc, b"key=value".to_vec(alloc)?));
+    let mut reader = BufReader::new(alloc, stream)?;
+    let mut value = String::new(alloc);
+    let count = lent_pieces(alloc, &mut reader, &mut value);
+    shown_pieces(alloc, count, value.as_str())
+}
+
+/// The calls of `pieces`, of a reader that is lent.
+fn lent_pieces<R: BufRead>(alloc: Global, reader: &mut R, value: &mut String) -> io::Result<usize> {
+    let mut key = Vec::new(alloc);
+    let count = reader.read_until(b'=', &mut key)?;
+    reader.read_to_string(value)?;
+    Ok(count)
+}
+
+/// How many bytes came up to the byte, and what came behind it.
+fn shown_pieces(alloc: Global, count: io::Result<usize>, value: &str) -> Result<String> {
+    let count = count?;
+    Ok(format!(in alloc; "pieces: {count} bytes, then {value:?}")?)
+}

@@ -1,0 +1,107 @@
+//! A table of comma separated values, read from a stream and written to another by the crate `csv`.
+use anyhow::{Result, anyhow};
+use csv::{ByteRecord, Error, ReaderBuilder, WriterBuilder};
+use py_buffered::{BufferedReader, BufferedWriter};
+use py_raw::RawFlags;
+use py_raw_memory::{Cut, MemRaw};
+use py_std::StdStream;
+use std::alloc::Global;
+use std::io;
+use std::io::{Read, Write};
+
+/// A table, of which one field has a comma.
+const TABLE: &[u8] = b"name,count\nann,3\n\"smith, jo\",12\n";
+
+/// A raw stream moves one byte at each of so many transfers.
+const ONE_BYTE: [Cut; 40] = [Cut::Take(1); 40];
+
+/// All records that a reader gives.
+fn records<R: Read + Drop>(alloc: Global, reader: R) -> Result<Vec<ByteRecord>, Error> {
+    let table = ReaderBuilder::new()
+        .has_headers(false)
+        .from_reader(alloc, reader);
+    let mut rows = Vec::new(alloc);
+    for row in table.into_byte_records() {
+        if rows.push(row?).is_err() {
+            return Err(Error::out_of_memory());
+        }
+    }
+    Ok(rows)
+}
+
+/// Writes the records to a writer, which is handed back.
+fn write_records<W: Write + Drop>(rows: &[ByteRecord], writer: W) -> Result<W, Error> {
+    let mut table = WriterBuilder::new().from_writer(writer);
+    for row in rows {
+        for field in 0..row.len() {
+            if let Some(bytes) = row.get(field) {
+                table.write_field(bytes)?;
+            }
+        }
+        table.end_record()?;
+    }
+    match table.into_inner() {
+        Ok(writer) => Ok(writer),
+        Err(error) => Err(error.into_error()),
+    }
+}
+
+/// A stream of the table, over a raw that moves one byte at a time.
+fn table_reader(alloc: Global) -> Result<StdStream<BufferedReader<MemRaw>>> {
+    let flags = RawFlags::able(true, false, false); // it can be read
+    let (bytes, plan) = (TABLE.to_vec(alloc)?, ONE_BYTE.to_vec(alloc)?);
+    let raw = MemRaw::new(bytes, flags, plan, Vec::new(alloc));
+    Ok(StdStream::new(BufferedReader::new(alloc, raw, 8)?))
+}
+
+/// A stream to a raw that moves one byte at a time.
+fn table_writer(alloc: Global) -> Result<StdStream<BufferedWriter<MemRaw>>> {
+    let flags = RawFlags::able(false, true, false); // it can be written
+    let raw = MemRaw::new(
+        Vec::new(alloc),
+        flags,
+        ONE_BYTE.to_vec(alloc)?,
+        Vec::new(alloc),
+    );
+    Ok(StdStream::new(BufferedWriter::new(alloc, raw, 8)?))
+}
+
+/// A table is read from one stream, and written to another.
+pub(crate) fn copied(alloc: Global) -> Result<String> {
+    match records(alloc, table_reader(alloc)?) {
+        Ok(rows) => written(alloc, &rows),
+        Err(error) => Err(anyhow!("{error}")),
+    }
+}
+
+/// What the records are, written to a stream.
+fn written(alloc: Global, rows: &[ByteRecord]) -> Result<String> {
+    match write_records(rows, table_writer(alloc)?) {
+        Ok(stream) => shown(alloc, rows.len(), stream.into_inner()),
+        Err(error) => Err(anyhow!("{error}")),
+    }
+}
+
+/// The table is copied by std from one stream to the other.
+pub(crate) fn moved(alloc: Global) -> Result<String> {
+    let mut reader = table_reader(alloc)?;
+    let mut writer = table_writer(alloc)?;
+    let count = io::copy(&mut reader, &mut writer);
+    shown_copy(alloc, count)
+}
+
+/// How many bytes were copied.
+fn shown_copy(alloc: Global, count: io::Result<u64>) -> Result<String> {
+    let count = count?;
+    Ok(format!(in alloc; "copied: {count} bytes")?)
+}
+
+/// How many records there are, and whether what a writer's raw has then is the table.
+fn shown(alloc: Global, count: usize, mut writer: BufferedWriter<MemRaw>) -> Result<String> {
+    let closed = writer.close().is_ok();
+    let same = match writer.raw() {
+        Some(raw) => raw.bytes_of() == TABLE,
+        None => false,
+    };
+    Ok(format!(in alloc; "table: {count} records, closed: {closed}, the same bytes: {same}")?)
+}
