@@ -1,5 +1,7 @@
-mod Keeping
+mod Gone
+pub mod Keeping
 mod Opening
 mod Parting
+pub mod Detaching
 mod Blaming
 mod Losing

@@ -14,7 +14,7 @@ use Rattle.py_plain_text.specs.TextOver.{TextOver, text_file_of}
 use Rattle.py_plain_text.specs.TextRefusals.{fits_handler}
 use Rattle.py_raw.specs.RawStream.{Raw, LeavesCounts}
 use Rattle.py_stream.specs.declared.access.Access.{Access}
-use Rattle.py_stream.specs.Access.{can_of, is_able}
+use Rattle.py_stream.specs.Access.{can_of, is_able, is_appended}
 use Rattle.py_stream.specs.Stream.{Stream, nothing_owed, buffering_of}
 use Rattle.py_stream.specs.Buffer.{Buffer, buffer_of, flat_of}
 use Rattle.py_stream.specs.Opening.{Opens, Untouched}
@@ -24,7 +24,7 @@ use Rattle.py_text.specs.declared.text_settings.TextSettings as declared
 use Rattle.py_read_text.specs.TextState.{TextState, file_of, settings_of}
 use Rattle.py_read_text.specs.Opening.{Wraps, opening_refusal}
 use Rattle.py_text_session.specs.Opening.{OpensText, text_opened}
-use Rattle.py_text_session.specs.Session.{IsTextSession}
+use Rattle.py_text_session.specs.Session.{IsTextSession, KeepsBeside}
 
 -- what was opened below a text
 abbrev pub OpensBelow : Raw → Access → ℕ → Stream → Type 0
@@ -76,9 +76,18 @@ session_begins raw opened size coder settings stream taken state opens wraps =
       buffered = ap is_unbuffered text.buffer_is;
       stands = λ lives told. text.stands (sym tells ∙ told) ∙ sym text.raw_place;
       joined = wraps.joined;
-      unwritten = λ can. record { none = text.none; own = text.own; life_is = text.life_is ∙ sym live };
-      is_open = λ other. record { raw = text.untouched.stays ∙ opens.was_open; buffer = ap is_closed text.life_is };
+      held = record {
+        unwritten = λ can. record { none = text.none; own = text.own; life_is = text.life_is ∙ sym live };
+        is_open = λ other. record { raw = text.untouched.stays ∙ opens.was_open; buffer = ap is_closed text.life_is };
+      };
     }
+
+-- what is kept beside it
+pub begins_beside : (raw : Raw) (opened : Access) (size : ℕ) (coder : Coder) (settings : declared.TextSettings) (stream : Stream) (taken : ℕ) (state : TextState) (appends : Bool) → OpensBelow raw opened size stream → Wraps (buffer_of stream taken) coder settings state → appends ≡ is_appended opened → KeepsBeside state.text.buffer appends size
+begins_beside raw opened size coder settings stream taken state appends opens wraps is = record {
+  appends_is = ap (λ (own : Buffer). own.can.appending) wraps.same ∙ (ap (λ (can : Abilities). can.appending) opens.can_do ∙ sym is);
+  size_is = ap (λ (own : Buffer). own.buffering) wraps.same ∙ ap buffering_of opens.buffer_is;
+}
 
 -- What a text asks of the buffer that it is opened over.
 

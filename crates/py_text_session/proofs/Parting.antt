@@ -13,7 +13,7 @@ use Rattle.py_read_text.specs.Owing.{all_owed, IsJoined, JoinsAt}
 use Rattle.py_read_text.specs.TextState.{TextState}
 use Rattle.py_textio.specs.declared.text_detached.TextDetached.{TextDetached}
 use Rattle.py_textio.specs.Handing as text
-use Rattle.py_text_session.specs.Handing.{place_handed}
+use Rattle.py_text_session.specs.Handing.{place_owed}
 
 pub has_parts : {R : Type 0} (shows : R → Raw) (stream : Stream) (result : Option (Detached R)) → PartsOutcome shows stream result → stream.life ≢ life.Detached → IsSome result
 has_parts shows stream (Some detached) outcome attached = grind arith
@@ -59,7 +59,7 @@ taken_from true at own count all is =
 taken_from false at own count all is = refl
 
 -- the place that is handed back
-pub place_so : (text : TextOver Buffer) (place : Option ℕ) (count : ℕ) → place ≡ (if text.buffer.can.seekable then Some (text.place.at - length text.owed) else None) → count ≡ length text.buffer.owed.bytes → option_map (λ (at : ℕ). at - count) place ≡ place_handed text
+pub place_so : (text : TextOver Buffer) (place : Option ℕ) (count : ℕ) → place ≡ (if text.buffer.can.seekable then Some (text.place.at - length text.owed) else None) → count ≡ length text.buffer.owed.bytes → option_map (λ (at : ℕ). at - count) place ≡ place_owed text
 place_so text place count place_is count_is =
     let all : length (all_owed text) ≡ count + length text.owed = length-append text.buffer.owed.bytes text.owed ∙ ap (λ (n : ℕ). n + length text.owed) (sym count_is) in
     ap (option_map (λ (at : ℕ). at - count)) place_is ∙ taken_from text.buffer.can.seekable text.place.at (length text.owed) count (length (all_owed text)) all

@@ -7,8 +7,10 @@
 mod laws;
 mod lines;
 mod text_session;
+mod unwritten;
 
 pub use laws::{a_wait_loses_nothing, settled_only_blames_itself};
 pub use lines::TextLines;
 pub use py_stream::{Access, Detached, NewRefused};
 pub use text_session::TextSession;
+pub use unwritten::TextUnwritten;

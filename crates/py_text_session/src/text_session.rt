@@ -14,11 +14,13 @@ ghost use Rattle.py_read_text.specs.Owing.{all_owed};
 ghost use Rattle.py_read_text.specs.Answers as over;
 ghost use Rattle.py_read_text.specs.Answers.{Answers};
 ghost use Rattle.py_text_session.specs.Answers.{text_reply};
-ghost use Rattle.py_text_session.specs.Handing.{place_handed};
+ghost use Rattle.py_buffered_core.specs.Buffered.{as_buffer};
+ghost use Rattle.py_textio.specs.Handing.{HasRoomBehind};
+ghost use Rattle.py_text_session.specs.Handing.{place_handed, unwritten_reply, AnswersCall};
 ghost use Rattle.py_text_session.specs.Opening.{TextOutcome};
-ghost use Rattle.py_text_session.specs.Session.{IsTextSession};
+ghost use Rattle.py_text_session.specs.Session.{IsHeld};
 
-use crate::TextLines;
+use crate::{TextLines, TextUnwritten};
 use py_buffered_core::Buffered;
 use py_flat::{Chars, IoFault, Life};
 use py_plain::{Encoding, Handler, Newlines};
@@ -28,35 +30,44 @@ use py_text::{Coder, Reconfigure, TextSettings};
 use py_textio::{TextDetached, TextIOWrapper};
 use std::alloc::Global;
 use std::marker::Model;
+use std::mem;
 
 /// A text that is read or written, or both, over a raw stream, as Python's `io.TextIOWrapper` over a buffered stream.
 ///
 /// It is seen as the text over what its buffer is seen as (`TextState` of `py_read_text`), and whether its last answer was short. Sizes
 /// and limits are characters; the sizes of the buffer and of chunks, and places from the start of the stream, are bytes.
 ///
-/// Each call first answers by the life, with all as it was and no raw called: `Failed` after a fault, `Closed` after a `close`
-/// (which may be called again); then it is `Unsupported` where the text isn't opened for it. Else, where the raw failed in the call, it is
+/// Each call first answers by the life, with all as it was and no raw called: `Failed` after a fault (but a `detach`), `Closed` after a
+/// `close` (which may be called again), `Detached` after a `detach`; then it is `Unsupported` where the text isn't opened for it. Else, where the raw failed in the call, it is
 /// `RawFault`: the text is failed from then on; after `close` it is closed. `NoMemory` means out of memory: place and life stay, and the
 /// call may be made again; but a text that is written may be failed by it, where memory ran out while its buffer took or passed on what
 /// was written.
 ///
 /// The rules are those of Python's `io.TextIOWrapper`; what waits, faults and refused ranges leave is this project's choice
-/// (docs/DECISIONS.md). A session that is dropped drops its raw, and what it owes; `into_parts` hands both back.
+/// (docs/DECISIONS.md). A session that is dropped drops its raw, and what it owes; `into_parts` hands both back. After a `detach` nothing
+/// is left of it but its raw, its settings, what it could do and its buffer's size; its place is 0.
 #[derive(Debug, Drop)]
 pub struct TextSession<R: RawStream> {
+    alloc: Global,
     text: TextIOWrapper<Buffered<R>>,
+    /// Whether it appends, which a detached text doesn't keep.
+    appends: bool,
+    /// How many bytes its buffer holds, or held.
+    buffer_size: usize,
+    /// The raw, once the text was detached.
+    raw: Option<R>,
 }
 
 // A function's proof knows what holds of the text where the function uses a field: so some begin with `let _ = &self.text;`.
 impl<R: RawStream> Model for TextSession<R> {
     ghost use Rattle.py_read_text.specs.TextState.{TextState};
-    ghost use Rattle.py_text_session.specs.Session.{IsTextSession};
+    ghost use Rattle.py_text_session.specs.Session.{seen, IsSession};
 
     ghost Value = { TextState };
 
-    ghost view = { λ s. s.text };
+    ghost view = { λ s. seen R.shows s.text s.appends s.buffer_size s.raw };
 
-    ghost invariant = { λ s. IsTextSession s.text };
+    ghost invariant = { λ s. IsSession R.shows s.text s.appends s.buffer_size s.raw };
 }
 
 /// An answer as characters.
@@ -97,7 +108,13 @@ impl<R: RawStream> TextSession<R> {
             Err(refused) => return Err(refused),
         };
         match TextIOWrapper::new(alloc, buffer, coder, settings) {
-            Ok(text) => Ok(TextSession { text }),
+            Ok(text) => Ok(TextSession {
+                alloc,
+                text,
+                appends: access.appends(),
+                buffer_size,
+                raw: None,
+            }),
             Err(refused) => {
                 let NewRefused { raw: buffer, fault } = refused;
                 let Detached {
@@ -243,10 +260,11 @@ impl<R: RawStream> TextSession<R> {
         self.text.closed()
     }
 
-    /// What became of it: live at first, failed by a fault of the raw or, of one that is written, by running out of memory, or closed.
+    /// What became of it: live at first, failed by a fault of the raw or, of one that is written, by running out of memory, closed, or
+    /// detached.
     pub fn life(&self) -> Life
         ensures life { result ≡ self.now.text.life }
-        ensures holds { IsTextSession self.now }
+        ensures holds { IsHeld self.now }
     {
         self.text.life()
     }
@@ -294,32 +312,91 @@ impl<R: RawStream> TextSession<R> {
         self.text.chunksize()
     }
 
+    /// Detaches the text, as Python's `detach` does: of a live one all is passed on that was written, as by `flush`, and nothing is
+    /// unwritten; of a failed one it answers at once what its raw isn't known to have, with the place of that, and calls no raw. The raw
+    /// stays with the session, for `into_parts`. From then on the getters tell what the text could do and its settings, and every other call
+    /// is `Detached`. It takes no memory but its raw's.
+    ///
+    /// `WouldBlock`: the raw would have blocked before all was passed on, and the text stays live. `RawFault`: the text is failed, and may be
+    /// detached as such. `NoMemory` comes only of a raw that takes memory; the text stays live, or is failed where memory ran out while its
+    /// buffer took what was written. `Closed` of a closed text, `Detached` of a detached one: with all as it was.
+    pub fn detach(&mut self) -> Result<TextUnwritten, IoFault>
+        ensures { AnswersCall self.old text_call.Detach (unwritten_reply result) self.new }
+    {
+        match self.text.detach() {
+            Ok(parts) => {
+                let Detached {
+                    raw,
+                    unwritten,
+                    place,
+                } = taken_apart(parts);
+                match mem::replace(&mut self.raw, Some(raw)) {
+                    None => {}
+                    Some(_) => unreachable!(),
+                }
+                Ok(TextUnwritten {
+                    bytes: unwritten,
+                    place,
+                })
+            }
+            Err(fault) => Err(fault),
+        }
+    }
+
     /// Hands the raw back, in every life, with the bytes that it isn't known to have, those of its buffer and behind them the text's own; and,
     /// where it can seek, with the place where they begin: without any the byte of the text place, where the text was opened, or behind what
-    /// was written last, or where a `read` of all came to the end. The raw isn't moved: it is closed where `close` closed it, and else
+    /// was written last, or where a `read` of all came to the end. Of a session that was detached, whose reply had both, it hands back the raw
+    /// alone, with nothing unwritten and no place. The raw isn't moved: it is closed where `close` closed it, and else
     /// stands wherever its last call left it. What was read and not taken is dropped. It takes no memory.
     pub fn into_parts(self) -> Detached<R>
         ensures raw { R.shows result.raw ≡ self.text.buffer.raw }
         ensures unwritten { result.unwritten.items ≡ all_owed self.text }
         ensures place { result.place ≡ place_handed self.text }
     {
-        let TextSession { text } = self;
-        let TextDetached {
-            buffer,
-            unwritten: own,
-            place,
-        } = text.into_parts().unwrap();
-        let Detached {
+        let TextSession {
+            alloc,
+            text,
+            appends: _,
+            buffer_size: _,
             raw,
-            unwritten,
-            place: _,
-        } = buffer.into_parts().unwrap();
-        let place = before(place, unwritten.len());
-        Detached {
-            raw,
-            unwritten: joined(unwritten, own),
-            place,
+        } = self;
+        let parts = text.into_parts();
+        match (raw, parts) {
+            (None, Some(parts)) => taken_apart(parts),
+            (Some(raw), None) => Detached {
+                raw,
+                unwritten: Vec::new(alloc),
+                place: None,
+            },
+            _ => unreachable!(),
         }
+    }
+}
+
+/// The parts of a text's buffer, with the bytes that the buffer hadn't behind those that it owes.
+fn taken_apart<R: RawStream>(parts: TextDetached<Buffered<R>>) -> Detached<R>
+    requires attached { (as_buffer parts.buffer).life ≢ Life.Detached }
+    requires room { HasRoomBehind as_buffer parts }
+    requires place { IfSome parts.place (λ at. length (as_buffer parts.buffer).owed.bytes ≤ at) }
+    ensures raw { R.shows result.raw ≡ (as_buffer parts.buffer).raw }
+    ensures unwritten { result.unwritten.items ≡ (as_buffer parts.buffer).owed.bytes ++ parts.unwritten.items }
+    ensures place { result.place ≡ option_map (λ at. at - length (as_buffer parts.buffer).owed.bytes) parts.place }
+{
+    let TextDetached {
+        buffer,
+        unwritten: own,
+        place,
+    } = parts;
+    let Detached {
+        raw,
+        unwritten,
+        place: _,
+    } = buffer.into_parts().unwrap();
+    let place = before(place, unwritten.len());
+    Detached {
+        raw,
+        unwritten: joined(unwritten, own),
+        place,
     }
 }
 
