@@ -1,1 +1,2 @@
 pub mod Lines
+pub use Rattle.py_buffered_core.specs.Ahead

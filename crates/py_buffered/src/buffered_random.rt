@@ -9,6 +9,7 @@ ghost use Rattle.py_stream.specs.Answers.{Answers, RefusesAlone};
 ghost use Rattle.py_stream.specs.Replies.{bytes_reply, into_reply, CountFits, KeepsBuffer, KeepsUnread, lent_reply, lines_reply};
 ghost use Rattle.py_stream.specs.Taken.{stream_in};
 ghost use Rattle.py_stream.specs.Opening.{StandsAtStart, NewOutcome, opened_as};
+ghost use Rattle.py_buffered_core.specs.Ahead.{LooksAhead, LendsAhead, PassesOver};
 
 use crate::{AlsoRead, BufferedKind, BufferedOver, ReadWrite, ReadsToo};
 use py_buffered_core::Buffered;
@@ -99,6 +100,34 @@ impl<R: RawStream> BufferedRandom<R> {
             Ok(false) => Ok(None),
             Err(fault) => Err(fault),
         }
+    }
+
+    /// Sees to it that some of the next bytes are held, for `held` to lend: where none are, by one transfer of the raw, after all that is
+    /// owed was passed on. True where some are, and where nothing is left; false where the raw would have blocked. It is refused as `peek`
+    /// is; the place stays.
+    ///
+    /// It takes no memory: `NoMemory` comes only of a raw that takes some.
+    pub fn fill(&mut self) -> Result<bool, IoFault>
+        ensures looks { LooksAhead self.old.stream result self.new.stream }
+        ensures taken { self.new.taken ≡ self.old.taken }
+    {
+        self.inner.look()
+    }
+
+    /// The bytes that it holds from the place on, lent; none where it doesn't live. It calls no raw.
+    pub fn held(&self) -> &[u8]
+        ensures { LendsAhead self.now.stream result.now }
+    {
+        self.inner.lent()
+    }
+
+    /// Moves the place past the next `amount` of the bytes that `held` lends, or past all of them where they are fewer, and answers how
+    /// many. Only the life refuses it. It calls no raw, and takes no memory; what is owed is still owed.
+    pub fn consume(&mut self, amount: usize) -> Result<usize, IoFault>
+        ensures passes { PassesOver self.old.stream amount result self.new.stream }
+        ensures taken { self.new.taken ≡ self.old.taken }
+    {
+        self.inner.consume(amount)
     }
 
     /// Reads as many bytes as `buffer` is long into its front, and answers how many; fewer come only at the end. What `buffer`

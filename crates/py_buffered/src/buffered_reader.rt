@@ -8,6 +8,7 @@ ghost use Rattle.py_stream.specs.Replies.{bytes_reply, into_reply, CountFits, Ke
 ghost use Rattle.py_stream.specs.Stream.{reader_can};
 ghost use Rattle.py_stream.specs.Opening.{StandsAtStart, NewOutcome};
 ghost use Rattle.py_buffered_core.specs.Buffered.{Reads};
+ghost use Rattle.py_buffered_core.specs.Ahead.{LooksAhead, LendsAhead, PassesOver};
 
 use crate::{BufferedKind, BufferedLines, BufferedOver, ReadOnly};
 use py_buffered_core::Buffered;
@@ -86,6 +87,31 @@ impl<R: RawStream> BufferedReader<R> {
             Ok(false) => Ok(None),
             Err(fault) => Err(fault),
         }
+    }
+
+    /// Sees to it that some of the next bytes are held, for `held` to lend: where none are, by one transfer of the raw. True where some
+    /// are, and where nothing is left; false where the raw would have blocked. It is refused as `peek` is; the place stays.
+    ///
+    /// It takes no memory: `NoMemory` comes only of a raw that takes some.
+    pub fn fill(&mut self) -> Result<bool, IoFault>
+        ensures { LooksAhead self.old result self.new }
+    {
+        self.inner.look()
+    }
+
+    /// The bytes that it holds from the place on, lent; none where it doesn't live. It calls no raw.
+    pub fn held(&self) -> &[u8]
+        ensures { LendsAhead self.now result.now }
+    {
+        self.inner.lent()
+    }
+
+    /// Moves the place past the next `amount` of the bytes that `held` lends, or past all of them where they are fewer, and answers how
+    /// many. Only the life refuses it. It calls no raw, and takes no memory.
+    pub fn consume(&mut self, amount: usize) -> Result<usize, IoFault>
+        ensures { PassesOver self.old amount result self.new }
+    {
+        self.inner.consume(amount)
     }
 
     /// Reads as many bytes as `buffer` is long into its front, and answers how many; fewer come only at the end. What `buffer`

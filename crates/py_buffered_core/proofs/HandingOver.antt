@@ -5,7 +5,6 @@ use Rattle.py_flat.specs.declared.life.Life.{Life}
 use Rattle.py_flat.specs.Calls.{Detach, Refused}
 use Rattle.py_raw.specs.RawStream.{Raw}
 use Rattle.py_stream.specs.declared.access.Access.{Access}
-use Rattle.py_stream.specs.declared.access.Access.TheVariants as access
 use Rattle.py_stream.specs.Access.{can_of, is_written}
 use Rattle.py_stream.specs.Stream.{Stream, detached_stream}
 use Rattle.py_stream.specs.Answers.{Answers}

@@ -1,1 +1,2 @@
 pub mod Buffered
+pub use Rattle.py_engine.specs.Ahead

@@ -12,6 +12,7 @@ ghost use Rattle.py_stream.specs.Opening.{StandsAtStart, MayOpen, NewOutcome, op
 ghost use Rattle.py_stream.specs.Handing.{DetachOutcome, PartsOutcome, LendsRaw};
 ghost use Rattle.py_buffered_core.specs.Buffered.{seen_of, as_buffer, held_of, BeginsDetach};
 ghost use Rattle.py_engine.specs.Engine.{stream_of};
+ghost use Rattle.py_engine.specs.Ahead.{LendsAhead, PassesOver};
 
 use py_engine::BufferedData;
 use py_raw::{IoFault, Life, Lines, RawStream};
@@ -112,6 +113,7 @@ impl<R: RawStream> Buffered<R> {
     pub fn look(&mut self) -> Result<bool, IoFault>
         requires reads { (seen_of self.old).can.readable ≡ true }
         ensures answers { Answers (seen_of self.old) Peek (look_reply result (held_of self.new.engine)) (seen_of self.new) }
+        ensures lends { IfOk result (λ shown. shown ≡ true → LendsAhead (seen_of self.new) (held_of self.new.engine)) }
         ensures taken { self.new.taken ≡ self.old.taken }
     {
         match &mut self.data {
@@ -122,11 +124,35 @@ impl<R: RawStream> Buffered<R> {
 
     /// The bytes that are held from the place on, lent.
     pub fn held(&self) -> &[u8]
-        ensures { result.now ≡ held_of self.now.engine }
+        ensures bytes { result.now ≡ held_of self.now.engine }
+        ensures lends { (seen_of self.now).can.readable ≡ true → (seen_of self.now).life ≡ Life.Live → LendsAhead (seen_of self.now) result.now }
     {
         match &self.data {
             Some(data) => data.ahead(),
             None => &[],
+        }
+    }
+
+    /// The bytes that are held from the place on, lent; none of a stream that doesn't live.
+    pub fn lent(&self) -> &[u8]
+        requires reads { (seen_of self.now).can.readable ≡ true }
+        ensures { LendsAhead (seen_of self.now) result.now }
+    {
+        match self.life() {
+            Life::Live => self.held(),
+            _ => &[],
+        }
+    }
+
+    /// Moves the place past n of the bytes held, or past all where fewer are, and answers how many.
+    pub fn consume(&mut self, amount: usize) -> Result<usize, IoFault>
+        requires reads { (seen_of self.old).can.readable ≡ true }
+        ensures passes { PassesOver (seen_of self.old) amount result (seen_of self.new) }
+        ensures taken { self.new.taken ≡ self.old.taken }
+    {
+        match &mut self.data {
+            Some(data) => data.consume(amount),
+            None => Err(IoFault::Detached),
         }
     }
 

@@ -16,3 +16,4 @@ pub mod Settling
 pub mod Pushing
 pub mod Random
 pub mod RandomWriting
+pub mod Ahead

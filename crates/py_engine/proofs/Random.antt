@@ -177,7 +177,7 @@ front_told : (window : WindowView) (bytes : List ℕ) (count : ℕ) → IsWindow
 front_told window bytes count is holds fits = sym (take-take count (length (ahead_of window)) (left_at bytes (place_of window)) fits) ∙ ap (take count) (bytes_ahead bytes window is.cursor holds)
 
 -- told, a live stream that is read holds the flat bytes
-holds_flat : (opened : Access) (bytes : List ℕ) (raw_place : ℕ) (window : WindowView) → is_read opened ≡ true → HasShape opened raw_place window → HoldsRead opened bytes window → HoldsBytes (flat_over bytes window) window
+pub holds_flat : (opened : Access) (bytes : List ℕ) (raw_place : ℕ) (window : WindowView) → is_read opened ≡ true → HasShape opened raw_place window → HoldsRead opened bytes window → HoldsBytes (flat_over bytes window) window
 holds_flat access.Update bytes raw_place window reads shape holds = holds
 holds_flat access.Read bytes raw_place window reads shape holds = subst (λ (flat : List ℕ). HoldsBytes flat window) (sym (none_over bytes window shape.settled)) holds
 holds_flat access.Write bytes raw_place window reads shape holds = absurd (cc)

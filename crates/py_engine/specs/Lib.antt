@@ -3,3 +3,4 @@ pub mod Passing
 pub mod Reading
 pub mod Random
 pub mod RandomWriting
+pub mod Ahead

@@ -2,11 +2,12 @@
 ghost use Rattle.std.specs.Prelude.{◌≡◌, ◌≢◌, ◌<◌, ◌≤◌, true, false, length, vec_len, []};
 ghost use Rattle.py_flat.specs.Limits.{greatest_place};
 ghost use Rattle.py_raw.specs.RawStream.{WherePlace};
-ghost use Rattle.py_stream.specs.Access.{is_written};
+ghost use Rattle.py_stream.specs.Access.{is_read, is_written};
 ghost use Rattle.py_stream.specs.Stream.{nothing_owed};
 ghost use Rattle.py_window.specs.Window.{ahead_of, place_of};
 ghost use Rattle.py_engine.specs.Engine.{stream_of, Stands, BeginOutcome, RawEndOutcome};
 ghost use Rattle.py_engine.specs.Reading.{IsReading, FillsOutcome, PassesOutcome};
+ghost use Rattle.py_engine.specs.Ahead.{LendsAhead};
 
 mod calls;
 mod ending;
@@ -92,8 +93,10 @@ impl<R: RawStream> BufferedData<R> {
 
     /// The bytes that are held from the place on, lent.
     pub fn ahead(&self) -> &[u8]
-        ensures { result.now ≡ ahead_of self.now.window }
+        ensures bytes { result.now ≡ ahead_of self.now.window }
+        ensures lends { is_read self.now.access ≡ true → self.now.life ≡ Life.Live → LendsAhead (stream_of self.now) result.now }
     {
+        let _ = &self.live;
         self.window.ahead()
     }
 

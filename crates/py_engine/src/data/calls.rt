@@ -1,11 +1,12 @@
 //! Readings of an engine that is read, whatever it owes.
-ghost use Rattle.std.specs.Prelude.{◌≡◌, true, length};
+ghost use Rattle.std.specs.Prelude.{◌≡◌, true, length, IfOk};
 ghost use Rattle.py_flat.specs.Calls.{Read, Read1, ReadLine, ReadLines, Peek, ReadInto, ReadInto1};
 ghost use Rattle.py_stream.specs.Access.{is_read};
 ghost use Rattle.py_stream.specs.Answers.{Answers};
 ghost use Rattle.py_stream.specs.Replies.{bytes_reply, into_reply, lines_reply, look_reply, CountFits, KeepsBuffer, KeepsUnread};
 ghost use Rattle.py_window.specs.Window.{ahead_of};
 ghost use Rattle.py_engine.specs.Engine.{stream_of};
+ghost use Rattle.py_engine.specs.Ahead.{LendsAhead, PassesOver};
 
 use super::BufferedData;
 use super::random::lines_in;
@@ -109,12 +110,30 @@ impl<R: RawStream> BufferedData<R> {
     /// Whether the bytes held show some of what comes next, or that nothing does; else the raw would have blocked.
     pub fn look(&mut self) -> Result<bool, IoFault>
         requires reads { is_read self.old.access ≡ true }
-        ensures { Answers (stream_of self.old) Peek (look_reply result (ahead_of self.new.window)) (stream_of self.new) }
+        ensures answers { Answers (stream_of self.old) Peek (look_reply result (ahead_of self.new.window)) (stream_of self.new) }
+        ensures lends { IfOk result (λ shown. shown ≡ true → LendsAhead (stream_of self.new) (ahead_of self.new.window)) }
     {
         let _ = &self.live;
         self.begin()?;
         let size = self.window.size();
-        self.has_some(size)
+        let shown = self.has_some(size);
+        let _ = &self.live;
+        shown
+    }
+
+    /// Moves the place past n of the bytes held, or past all where fewer are, and answers how many.
+    pub fn consume(&mut self, amount: usize) -> Result<usize, IoFault>
+        requires reads { is_read self.old.access ≡ true }
+        ensures { PassesOver (stream_of self.old) amount result (stream_of self.new) }
+    {
+        let _ = &self.live;
+        self.begin()?;
+        let count = amount.min(self.window.ahead().len());
+        if count == 0 {
+            return Ok(0);
+        }
+        self.step_on(count);
+        Ok(count)
     }
 
     /// Reads a line, of at most so many bytes.
