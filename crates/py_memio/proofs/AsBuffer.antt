@@ -18,7 +18,6 @@ use Rattle.py_stream.specs.Answers.{IsAnswerTo, IsReplyTo, IsShort, SeekGoes, Wi
 use Rattle.py_stream.specs.Buffer.{Buffer, taken_by, refusal_lent, refused_here, LeavesBuffer, BufferMoves, BufferPasses, BufferLays, BufferTakes, asks_for, closes_twice, GoesFromEnd, BufferSeeksFromEnd, BufferSeeksByEnd, BufferOwes, is_made, AnswersAsBuffer}
 use Rattle.py_memio.specs.InMemory.{life_of, file_in_memory, refusal_in_memory, may_lack_memory, CarriedOutInMemory, AnswersWith, AnswersInMemory}
 use Rattle.py_memio.specs.BytesIO.{Exports, BytesView, has_some, is_lent, buffer_with, as_buffer}
-use Rattle.py_stream.specs.Stream.{nothing_owed}
 use Rattle.py_memio.proofs.Calm.{Calmly, calm, refusedly, lays_none, owes_still}
 
 -- a call that doesn't change the length is refused by the flat file alone

@@ -95,7 +95,7 @@ ResizableOutcome None result = result ≡ Ok tt
 abbrev pub use_refusal : BytesView → ℕ → Option IoFault
 use_refusal view number = or_else (life_fault view.file.life) (refused_if (not (is_out view.exports number)) fault.BadArgument)
 
--- the bytes that an export lends are the flat bytes
+-- bytes that are lent, as an export lends the flat ones, or why they aren't
 abbrev pub LendsBytes : Option IoFault → List ℕ → Result (Bor (List ℕ)) IoFault → Type 0
 LendsBytes (Some why) bytes result = result ≡ Err why
 LendsBytes None bytes (Ok lent) = lent.now ≡ bytes

@@ -20,6 +20,11 @@ abbrev pub FillsFront : Result ℕ IoFault → List ℕ → List ℕ → Type 0
 FillsFront (Ok count) before after = (count ≤ length after) × (drop count after ≡ drop count before)
 FillsFront (Err why) before after = after ≡ before
 
+-- the reply of a reading whose bytes no one gets
+abbrev pub passed_reply : Result ℕ IoFault → List ℕ → FileReply
+passed_reply (Ok count) part = Bytes part
+passed_reply (Err why) part = Refused why
+
 -- the reply of a reading that gives lines
 abbrev pub given_lines_reply : Result (List (List ℕ)) IoFault → FileReply
 given_lines_reply (Ok lines) = LinesReply lines

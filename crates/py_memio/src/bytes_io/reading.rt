@@ -1,12 +1,12 @@
 //! Readings.
-ghost use Rattle.std.specs.Prelude.{◌≡◌, ◌≤◌, length, IfOk};
+ghost use Rattle.std.specs.Prelude.{◌≡◌, ◌≤◌, length, Some, IfOk, IfErr};
 ghost use Rattle.py_flat.specs.Bytes.{first_of};
 ghost use Rattle.py_flat.specs.Lines.{Lf, first_line, lines_within, joined};
 ghost use Rattle.py_flat.specs.Calls.{Read, Read1, ReadInto, ReadInto1, ReadLine, ReadLines};
 ghost use Rattle.py_flat.specs.ExactStep.{rest};
 ghost use Rattle.py_memio.specs.InMemory.{AnswersInMemory};
-ghost use Rattle.py_memio.specs.Replies.{given_reply, filled_reply, FillsFront, given_lines_reply};
-ghost use Rattle.py_memio.specs.BytesIO.{is_lent, GivesAll};
+ghost use Rattle.py_memio.specs.Replies.{given_reply, filled_reply, FillsFront, passed_reply, given_lines_reply};
+ghost use Rattle.py_memio.specs.BytesIO.{is_lent, LendsBytes, GivesAll};
 ghost use Rattle.py_flat.specs.Refusals.{life_fault};
 
 use super::BytesIO;
@@ -112,6 +112,29 @@ impl BytesIO {
         let (lines, total) = lines_of(alloc, self.rest(), hint)?;
         self.place += total as u64;
         Ok(lines)
+    }
+
+    /// Shows all that is left, lent; the place stays. It takes no memory.
+    pub fn peek(&self) -> Result<&[u8], IoFault>
+        ensures { LendsBytes (life_fault self.now.file.life) (rest self.now.file) result }
+    {
+        self.check_open()?;
+        Ok(self.rest())
+    }
+
+    /// Moves the place past the next `amount` bytes, or past all that are left where they are fewer, and answers how many: as `readinto`,
+    /// without a buffer. It takes no memory.
+    pub fn consume(&mut self, amount: usize) -> Result<usize, IoFault>
+        ensures answer { AnswersInMemory (is_lent self.old) self.old.file (ReadInto1 amount) (passed_reply result (first_of (Some amount) (rest self.old.file))) self.new.file }
+        ensures count { IfOk result (λ count. count ≡ length (first_of (Some amount) (rest self.old.file))) }
+        ensures refused { IfErr result (λ why. life_fault self.old.file.life ≡ Some why) }
+        ensures exports { self.new.exports ≡ self.old.exports }
+        ensures taken { self.new.taken ≡ self.old.taken }
+    {
+        self.check_open()?;
+        let count = self.next_bytes(Some(amount)).len();
+        self.place += count as u64;
+        Ok(count)
     }
 
     /// A copy of all bytes, wherever the stream stands.
