@@ -32,7 +32,7 @@ gives_if true false before after size reply same so = absurd (cc)
 gives_if false false before after size reply same so = gives_none size reply
 gives_if false true before after size reply same so = absurd (cc)
 
-keeps_if : (was is : Bool) (before after : List ℕ) → is ≡ was → (IsTrue was → after ≡ before) → Keeps (if_told was before) (if_told is after)
+pub keeps_if : (was is : Bool) (before after : List ℕ) → is ≡ was → (IsTrue was → after ≡ before) → Keeps (if_told was before) (if_told is after)
 keeps_if true true before after same so = so refl
 keeps_if true false before after same so = absurd (cc)
 keeps_if false is before after same so = tt

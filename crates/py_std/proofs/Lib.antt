@@ -1,2 +1,4 @@
 mod Told
 mod Known
+mod Loans
+mod Rests

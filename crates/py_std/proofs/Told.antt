@@ -1,13 +1,13 @@
 -- What the step of the model makes of a stream's bytes, of those that are left, and of those up to its place.
-use Rattle.std.proofs.Common.{◌≡◌, ℕ, zero, suc, ◌+◌, ◌<◌, ◌≤◌, ℤ, Bool, List, [], ◌∷◌, ◌++◌, length, take, drop, Option, Some, None, refl, sym, ap, ◌∙◌, subst, arith, append_assoc, add-zero}
+use Rattle.std.proofs.Common.{◌≡◌, ℕ, zero, suc, ◌+◌, ◌<◌, ◌≤◌, ℤ, Bool, true, false, nat_eq, if◌then◌else◌, List, [], ◌∷◌, ◌++◌, length, take, drop, Option, Some, None, refl, sym, ap, ◌∙◌, subst, arith, append_assoc, add-zero}
 use Rattle.std.proofs.lemmas.List.{take_all, take-take, take-append-drop, append-nil, length-take-le, drop-drop, drop_at, drop_all}
 use Rattle.py_flat.specs.declared.fault.IoFault.{IoFault}
 use Rattle.py_flat.specs.declared.fault.IoFault.TheVariants as fault
 use Rattle.py_flat.specs.Bytes.{filled_to, lay}
 use Rattle.py_flat.specs.FlatFile.{FlatFile, Buffering, Unbuffered, Buffered, InMemory}
-use Rattle.py_flat.specs.Calls.{FileReply, Bytes, Refused, ReadInto1, Seek, Flush}
+use Rattle.py_flat.specs.Calls.{FileReply, Bytes, NotReady, Refused, ReadInto1, Peek, Seek, Flush}
 use Rattle.py_flat.specs.Refusals.{refusal}
-use Rattle.py_flat.specs.ExactStep.{rest, gives, after_read}
+use Rattle.py_flat.specs.ExactStep.{rest, buffer_full, gives, after_read}
 use Rattle.py_flat.specs.AllowedStep.{settled, waited_for, raw_faulted, out_of_memory}
 use Rattle.py_flat.specs.BinaryStep.{IsFrontOf, Transfers, CarriedOut, SettledBy, BinaryStep, if_over_raw}
 use Rattle.py_flat.proofs.Laying.{filled_laid}
@@ -71,6 +71,47 @@ in_memory file size reply after by = gave_exact file size reply after by
 pub memory_gives : (refused : Option IoFault) (file : FlatFile) (size : ℕ) (reply : FileReply) (after : FlatFile) → AnswersWith refused file (ReadInto1 size) reply after → GivesNext (Some (rest file)) size reply (Some (rest after))
 memory_gives (Some why) file size reply after by = stays file size why reply after by.0 (ap rest by.1)
 memory_gives None file size reply after by = in_memory file size reply after by
+
+-- Looking ahead.
+
+-- a `peek` leaves what is left, and shows nothing only where nothing is
+abbrev pub LooksOn : FlatFile → FileReply → FlatFile → Type 0
+LooksOn file reply after = (rest after ≡ rest file) × (reply ≡ Bytes [] → rest file ≡ [])
+
+-- where one transfer without a size asks for nothing, there is nothing
+full_by : (all : Bool) (size : ℕ) (bytes : List ℕ) → nat_eq size 0 ≡ all → (if all then bytes else take size bytes) ≡ [] → bytes ≡ []
+full_by true size bytes same none = none
+full_by false size bytes same none = nothing_taken size bytes (grind arith) none
+
+full_none : (buffering : Buffering) (bytes : List ℕ) → buffer_full buffering bytes ≡ [] → bytes ≡ []
+full_none Unbuffered bytes none = none
+full_none (Buffered size) bytes none = full_by (nat_eq size 0) size bytes refl none
+full_none InMemory bytes none = none
+
+-- bytes that are given alike are the same
+bytes_are : (xs ys : List ℕ) → Bytes xs ≡ Bytes ys → xs ≡ ys
+bytes_are xs ys same = cc
+
+looked : (file : FlatFile) (reply : FileReply) (after : FlatFile) → Transfers file Peek (buffer_full file.buffering (rest file)) reply after → LooksOn file reply after
+looked file reply after moved =
+    let says : reply ≡ Bytes moved.part = ap (λ (outcome : FileReply × FlatFile). outcome.0) moved.outcome in (
+      ap (λ (outcome : FileReply × FlatFile). rest outcome.1) moved.outcome,
+      λ none. full_none file.buffering (rest file) (moved.some (bytes_are moved.part [] (sym says ∙ none))),
+    )
+
+looked_settled : (refused : Option IoFault) (file : FlatFile) (reply : FileReply) (after : FlatFile) → SettledBy file Peek refused reply after → LooksOn file reply after
+looked_settled (Some why) file reply after by = (ap rest by.1, λ none. absurd (let says : Refused why ≡ Bytes [] = sym by.0 ∙ none in cc))
+looked_settled None file reply after by = looked file reply after by
+
+pub looking_on : (file : FlatFile) (reply : FileReply) (short faulted : Bool) (after : FlatFile) → BinaryStep file Peek reply short faulted after → (reply ≡ Refused fault.RawFault → after.place ≡ file.place) → LooksOn file reply after
+looking_on file reply short faulted after (settled by) still = looked_settled (refusal file Peek) file reply after by
+looking_on file reply short faulted after (waited_for waited by) still = (ap rest by.1.1, λ none. absurd (let says : NotReady ≡ Bytes [] = sym by.1.0 ∙ none in cc))
+looking_on file reply short faulted after (raw_faulted faults says left) still =
+    let bytes : after.bytes ≡ file.bytes = left.1.2.bytes_are ∙ ap (lay file.bytes file.place) (take_all left.1.0 [] (omega arith)) in (
+      ap (λ (own : List ℕ). drop after.place own) bytes ∙ ap (λ (place : ℕ). drop place file.bytes) (still says),
+      λ none. absurd (let never : Refused fault.RawFault ≡ Bytes [] = sym says ∙ none in cc),
+    )
+looking_on file reply short faulted after (out_of_memory says left) still = (ap rest left.1, λ none. absurd (let never : Refused fault.NoMemory ≡ Bytes [] = sym says ∙ none in cc))
 
 -- All bytes.
 

@@ -1,5 +1,6 @@
 -- What the calls of std's traits answer, by the stream's own.
-use Rattle.std.specs.Prelude.{◌≡◌, ◌≢◌, ℕ, ◌<◌, ℤ, pos, negsuc, Bool, true, false, nat_le, List, drop, Option, Some, None, Result, Ok, Err, IfErr}
+use Rattle.std.specs.Prelude.{◌≡◌, ◌≢◌, ℕ, ◌<◌, ℤ, pos, negsuc, Bool, true, false, nat_le, List, length, drop, Option, Some, None, Result, Ok, Err, IfErr}
+use denote.Bor.{Bor}
 use Rattle.std.specs.IoError.{error_kind}
 use Rattle.std.specs.declared.io.Error.{Error}
 use Rattle.std.specs.declared.io.ErrorKind.TheVariants as kind
@@ -30,6 +31,13 @@ SaysRead (Ok (Some count)) (Ok said) = said ≡ count
 SaysRead (Ok None) (Err error) = error_kind error ≡ kind.WouldBlock
 SaysRead (Err why) (Err error) = error_kind error ≡ kind_of why
 SaysRead came result = ⊥
+
+-- a loan is of all that the stream lends; or it says that the raw would have blocked, or why it was refused
+abbrev pub SaysLent : Result Bool IoFault → (lends : ℕ) → Result (Bor (List ℕ)) Error → Type 0
+SaysLent (Ok true) lends (Ok lent) = length lent.now ≡ lends
+SaysLent (Ok false) lends (Err error) = error_kind error ≡ kind.WouldBlock
+SaysLent (Err why) lends (Err error) = error_kind error ≡ kind_of why
+SaysLent came lends result = ⊥
 
 -- a reading leaves what the buffer has after the bytes that it gave, and all of it where it gave none
 abbrev pub LeavesBehind : Result ℕ Error → List ℕ → List ℕ → Type 0

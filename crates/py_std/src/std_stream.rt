@@ -1,19 +1,20 @@
 //! A stream as a reader, a writer and a seeker of std's.
 ghost use Rattle.std.specs.Prelude.{◌≡◌};
 
-use crate::ReadOnce;
 use crate::answers::{io_count_read, io_count_written, io_moved, io_past_all, io_result};
+use crate::{LendHeld, ReadOnce};
+use py_flat::IoFault;
 use py_stream::BufferedStream;
 use std::io;
-use std::io::{Read, Seek, SeekFrom, Write};
+use std::io::{BufRead, Read, Seek, SeekFrom, Write};
 use std::marker::Model;
 
 /// A stream as std's traits have it. Its calls are the stream's own: nothing is kept beside it, so that a stream that is taken out again
 /// goes on where it stands.
 ///
-/// It reads where the stream is a `BufferedReader`, a `BufferedRandom` or a `BytesIO`, and writes and seeks where it is any
-/// `BufferedStream`; what a stream can't do is refused as `Unsupported`. Where the raw would have blocked, the error is of the kind
-/// `WouldBlock`; a fault is one of its kind, with the fault's text; no error is of the kind `Interrupted`, so that std's loops end.
+/// It reads, and lends what is held, where the stream is a `BufferedReader`, a `BufferedRandom` or a `BytesIO`, and writes and seeks where
+/// it is any `BufferedStream`; what a stream can't do is refused as `Unsupported`. Where the raw would have blocked, the error is of the
+/// kind `WouldBlock`; a fault is one of its kind, with the fault's text; no error is of the kind `Interrupted`, so that std's loops end.
 ///
 /// Contracts see the stream itself.
 #[derive(Debug, Drop)]
@@ -74,6 +75,45 @@ impl<S: ReadOnce> Read for StdStream<S> {
     {
         let came = self.stream.read_once(buf);
         io_count_read(came)
+    }
+}
+
+/// As the stream's `peek`: the bytes that it holds are lent from its own buffer.
+impl<S: LendHeld> BufRead for StdStream<S> {
+    ghost use Rattle.std.specs.Prelude.{ℕ, Some, IfOk, IfSome, length, Result, []};
+    ghost use types.Logic.{sem};
+    ghost use Rattle.std.specs.Io.{StartsWith};
+    ghost use Rattle.std.specs.Io.BufRead.{Rests, FillKeeps, DropsConsumable};
+    ghost use Rattle.py_std.specs.contracts.std_stream.StdStream.{the_row};
+    ghost use Rattle.py_std.specs.Answers.{AnsweredBy, SaysLent, IsntInterrupted};
+
+    ghost consumable_len = { λ stream. Some (S.lends stream) };
+
+    /// Lends the bytes that are held from the place on; where none are, one transfer of the raw brings some. None are lent exactly where
+    /// nothing is left. The place stays. It takes no memory, but a raw may.
+    ///
+    /// `WouldBlock`: the raw would have blocked before any byte. Every other error is that of a refusal of the stream's `peek`. They leave
+    /// what is left as it was.
+    fn fill_buf(&mut self) -> io::Result<&[u8]>
+        ensures front { IfSome (S.left self.old) (λ xs. IfOk result (λ lent. StartsWith xs lent.now)) }
+        ensures end { IfSome (S.left self.old) (λ xs. IfOk result (λ lent. length lent.now ≡ 0 → xs ≡ [])) }
+        ensures* after_borrow { sem 𝓛 (Rests (the_row S.row) self.entry (λ new. FillKeeps (S.left self.old) (S.left new) (Some (S.lends new)) result × AnsweredBy (λ came. S.looks self.old came new) (λ came. SaysLent came (S.lends new) result))) }
+        ensures retried { IsntInterrupted result }
+    {
+        match self.stream.fill() {
+            Ok(true) => Ok(self.stream.held()),
+            Ok(false) => Err(io::Error::from(IoFault::WouldBlock { taken: 0 })),
+            Err(fault) => Err(io::Error::from(fault)),
+        }
+    }
+
+    /// Moves the place past the next `amount` of the bytes that `fill_buf` lends, or past all of them where they are fewer. It calls no
+    /// raw, and takes no memory. A stream that doesn't live lends none, and stays as it is.
+    fn consume(&mut self, amount: usize)
+        ensures bytes { DropsConsumable (S.left self.old) (S.left self.new) (Some (S.lends self.old)) amount }
+        ensures passes { AnsweredBy (λ came. S.passes self.old amount came self.new) (λ came. Unit {0}) }
+    {
+        let _ = self.stream.consume(amount);
     }
 }
 
