@@ -13,7 +13,7 @@ use py_buffered::{BufferedReader, BufferedWriter};
 use py_raw::Opener;
 use py_raw_files::FileOpener;
 use py_std::StdStream;
-use reading::{Reading, read_small, read_small_by_std};
+use reading::{Reading, read_lines_by_std, read_small, read_small_by_std};
 use std::io;
 use task::Task;
 use writing::{write_short, write_short_by_std};
@@ -29,6 +29,7 @@ fn read_file(rt: &HostRuntime, reading: Reading, path: &str) -> Option<Counts> {
     match reading {
         Reading::Small => read_small(&mut reader).ok(),
         Reading::SmallByStd => read_small_by_std(&mut StdStream::new(reader)).ok(),
+        Reading::LinesByStd => read_lines_by_std(rt.alloc(), &mut StdStream::new(reader)).ok(),
         Reading::Asked(asked) => asked.run(rt.alloc(), &mut reader).ok(),
     }
 }
@@ -55,7 +56,7 @@ fn once(rt: &HostRuntime, task: Task, path: &str) -> Option<Counts> {
 fn main(rt: HostRuntime) -> io::Result<()> {
     let Some(asked) = FileTask::from_command_line(&rt, Task::from_word)? else {
         return rt.println(
-            "usage: py_buffered_bench lines|pieces|whole|small|small-by-std|writes|writes-by-std <path> <rounds>",
+            "usage: py_buffered_bench lines|pieces|whole|small|small-by-std|lines-by-std|writes|writes-by-std <path> <rounds>",
         );
     };
     let (counts, best) = best_of(

@@ -3,7 +3,7 @@ use py_buffered::BufferedReader;
 use py_raw::{IoFault, RawStream};
 use std::alloc::Global;
 use std::io;
-use std::io::Read;
+use std::io::{BufRead, Read};
 
 /// How much a reader is asked for at once by `Pieces`.
 const PIECE: usize = 65536;
@@ -20,6 +20,8 @@ pub(crate) enum Reading {
     Small,
     /// By std's `read`.
     SmallByStd,
+    /// Lines, each into the same space, by std's `read_until`.
+    LinesByStd,
 }
 
 /// What is asked for at once.
@@ -78,6 +80,21 @@ pub(crate) fn read_small_by_std<R: Read>(reader: &mut R) -> io::Result<Counts> {
     let mut counts = Counts::new();
     for _ in 0..u64::MAX {
         let count = reader.read(&mut space)?;
+        if count == 0 {
+            break;
+        }
+        counts.add(count);
+    }
+    Ok(counts)
+}
+
+/// Reads lines to the end, each into one space, by std's `read_until`.
+pub(crate) fn read_lines_by_std<R: BufRead>(alloc: Global, reader: &mut R) -> io::Result<Counts> {
+    let mut line = Vec::new(alloc);
+    let mut counts = Counts::new();
+    for _ in 0..u64::MAX {
+        line.clear();
+        let count = reader.read_until(b'\n', &mut line)?;
         if count == 0 {
             break;
         }

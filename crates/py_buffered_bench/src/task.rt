@@ -17,6 +17,7 @@ impl Task {
             "whole" => Some(Task::Reads(Reading::Asked(Asked::Whole))),
             "small" => Some(Task::Reads(Reading::Small)),
             "small-by-std" => Some(Task::Reads(Reading::SmallByStd)),
+            "lines-by-std" => Some(Task::Reads(Reading::LinesByStd)),
             "writes" => Some(Task::Writes { by_std: false }),
             "writes-by-std" => Some(Task::Writes { by_std: true }),
             _ => None,
