@@ -28,5 +28,6 @@ fn main(rt: HostRuntime) -> Result<()> {
     print(&rt, coded::numbers(alloc))?;
     print(&rt, coded::decoded(alloc))?;
     print(&rt, lines::dropped(alloc))?;
+    print(&rt, lines::kept(alloc))?;
     print(&rt, formatting::formatted(alloc))
 }

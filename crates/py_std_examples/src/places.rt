@@ -7,7 +7,7 @@ use py_raw_memory::MemRaw;
 use py_std::StdStream;
 use std::alloc::Global;
 use std::io;
-use std::io::{BufRead, BufReader, Read, Seek, SeekFrom, Write};
+use std::io::{BufRead, Read, Seek, SeekFrom, Write};
 
 /// Bytes are written over, and all are read.
 pub(crate) fn replaced(alloc: Global) -> Result<String> {
@@ -54,12 +54,11 @@ fn shown_refused(
     }
 }
 
-/// Bytes are read up to a byte, through a buffer of std's.
+/// Bytes are read up to a byte.
 pub(crate) fn pieces(alloc: Global) -> Result<String> {
-    let stream = StdStream::new(BytesIO::new(alloc, b"key=value".to_vec(alloc)?));
-    let mut reader = BufReader::new(alloc, stream)?;
+    let mut stream = StdStream::new(BytesIO::new(alloc, b"key=value".to_vec(alloc)?));
     let mut value = String::new(alloc);
-    let count = lent_pieces(alloc, &mut reader, &mut value);
+    let count = lent_pieces(alloc, &mut stream, &mut value);
     shown_pieces(alloc, count, value.as_str())
 }
 
