@@ -8,7 +8,8 @@ use std::io::{BufRead, Read};
 /// How much a reader is asked for at once by `Pieces`.
 const PIECE: usize = 65536;
 
-/// How much a reader is asked for at once by `Small` and `SmallByStd`, which read into one space that is kept.
+/// How much a reader is asked for at once by `Small` and `SmallByStd`, which read into one space that is kept, and moved by `Lent` and
+/// `LentByStd`.
 const SMALL: usize = 64;
 
 /// How a file is read.
@@ -22,6 +23,10 @@ pub(crate) enum Reading {
     SmallByStd,
     /// Lines, each into the same space, by std's `read_until`.
     LinesByStd,
+    /// By `fill`, `held` and `consume`.
+    Lent,
+    /// By std's `fill_buf` and `consume`.
+    LentByStd,
 }
 
 /// What is asked for at once.
@@ -98,6 +103,37 @@ pub(crate) fn read_lines_by_std<R: BufRead>(alloc: Global, reader: &mut R) -> io
         if count == 0 {
             break;
         }
+        counts.add(count);
+    }
+    Ok(counts)
+}
+
+/// Goes to the end over what is lent, some bytes at a time, by `fill`, `held` and `consume`.
+pub(crate) fn read_lent<R: RawStream>(reader: &mut BufferedReader<R>) -> Result<Counts, IoFault> {
+    let mut counts = Counts::new();
+    for _ in 0..u64::MAX {
+        if !reader.fill()? {
+            continue;
+        }
+        let count = reader.held().len().min(SMALL);
+        if count == 0 {
+            break;
+        }
+        reader.consume(count)?;
+        counts.add(count);
+    }
+    Ok(counts)
+}
+
+/// Goes to the end over what is lent, as many bytes at a time, by std's `fill_buf` and `consume`.
+pub(crate) fn read_lent_by_std<R: BufRead>(reader: &mut R) -> io::Result<Counts> {
+    let mut counts = Counts::new();
+    for _ in 0..u64::MAX {
+        let count = reader.fill_buf()?.len().min(SMALL);
+        if count == 0 {
+            break;
+        }
+        reader.consume(count);
         counts.add(count);
     }
     Ok(counts)

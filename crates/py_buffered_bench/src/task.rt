@@ -18,6 +18,8 @@ impl Task {
             "small" => Some(Task::Reads(Reading::Small)),
             "small-by-std" => Some(Task::Reads(Reading::SmallByStd)),
             "lines-by-std" => Some(Task::Reads(Reading::LinesByStd)),
+            "lent" => Some(Task::Reads(Reading::Lent)),
+            "lent-by-std" => Some(Task::Reads(Reading::LentByStd)),
             "writes" => Some(Task::Writes { by_std: false }),
             "writes-by-std" => Some(Task::Writes { by_std: true }),
             _ => None,
