@@ -2,7 +2,7 @@
 use Rattle.std.proofs.Common.{◌≡◌, ℕ, zero, suc, ◌-◌, ◌≤◌, Bool, true, false, nat_eq, nat_le, if◌then◌else◌, List, [], ◌∷◌, ◌++◌, length, take, drop, chars, encode_utf8_all, Option, Some, None, Ok, Err, refl, sym, ap, subst, ◌∙◌, arith, append_assoc, le-leb}
 use Rattle.std.specs.Str.{IsUtf8}
 use Rattle.std.proofs.lemmas.List.{length-append, length-take-le, take_all, take_at, take-append-le, take-append-drop}
-use Rattle.std.proofs.lemmas.Str.{length-le-encodes}
+use Rattle.std.proofs.lemmas.Str.{length-le-encodes, encodes-chars}
 use Rattle.py_flat.specs.Lines.{LineEnd, Lf, Cr, CrLf, AnyEnd, lf, cr, line_after, has_end_after, first_line}
 use Rattle.py_flat.proofs.Cutting.{first_line_is_front}
 use Rattle.py_plain.specs.declared.newlines.Newlines.{Newlines}
@@ -13,7 +13,7 @@ use Rattle.py_held_text.specs.Finding.{IsFrontOf, line_in_hand}
 use Rattle.py_held_text.specs.LineSearch.{IsBegin}
 use Rattle.py_plain.proofs.LineEnds.{here}
 use Rattle.py_held_text.proofs.Lines.{found-at, missed-at, line-open}
-use Rattle.py_held_text.proofs.Parts.{IsCut, cut}
+use Rattle.py_held_text.proofs.Parts.{IsCut, cut, spelled-both}
 
 -- Lines.
 
@@ -61,6 +61,22 @@ line-count end cs bytes count begin counted =
     let line : List ℕ = line_after end false (cs ++ lf ∷ []) in
     let size : count ≡ length line = counted ∙ ap (λ (t : List ℕ). length t) (whole-taken cs line bytes begin) in
     ap (λ (n : ℕ). Some n) size ∙ in-if (length line) (length cs) (omega (arith, ap (λ (t : List ℕ). length t) begin.whole, length-append line begin.rest))
+
+-- a line that is all of a text
+pub line-all : (end : LineEnd) (text : List ℕ) (bytes count : ℕ) → IsUtf8 text → bytes ≡ length text → IsBegin (chars text) (line_after end false (chars text ++ lf ∷ [])) bytes → count ≡ length (chars text) → (◌≡◌ {A = Option ℕ} (Some count) (line_in_hand end None (chars text))) × IsFrontOf (chars text) (record { chars = count; bytes = bytes })
+line-all end text bytes count utf8 all begin counted =
+    let cs : List ℕ = chars text in
+    let line : List ℕ = line_after end false (cs ++ lf ∷ []) in
+    let spelled = spelled-both line begin.rest in
+    let whole : length (encode_utf8_all cs) ≡ bytes = ap (λ (t : List ℕ). length t) (encodes-chars text utf8) ∙ sym all in
+    let none : length begin.rest ≡ 0 = omega (arith, whole, spelled, begin.bytes_are, ap (λ (t : List ℕ). length (encode_utf8_all t)) begin.whole, length-le-encodes begin.rest) in
+    let size : count ≡ length line = omega (arith, counted, none, ap (λ (t : List ℕ). length t) begin.whole, length-append line begin.rest) in (
+      line-count end cs bytes count begin (size ∙ ap (λ (t : List ℕ). length t) (sym (whole-taken cs line bytes begin))),
+      record {
+        within = omega (arith, counted);
+        bytes = sym whole ∙ ap (λ (t : List ℕ). length (encode_utf8_all t)) (sym (take_all count cs (omega (arith, counted))));
+      },
+    )
 
 -- At most n characters of a line.
 

@@ -1,9 +1,9 @@
 -- All items of some bytes, decoded at once, and read by the newline rule.
-use Rattle.std.proofs.Common.{◌≡◌, ◌⊎◌, inl, inr, ℕ, zero, suc, ◌+◌, ◌-◌, ◌*◌, ◌^◌, ◌<◌, ◌≤◌, Bool, false, List, [], ◌∷◌, length as len, drop, encode_utf8_all, Result, Ok, Err, IfOk, String, string_bytes, refl, sym, ap, ◌∙◌, arith}
+use Rattle.std.proofs.Common.{◌≡◌, ◌⊎◌, inl, inr, ℕ, zero, suc, ◌+◌, ◌-◌, ◌*◌, ◌^◌, ◌<◌, ◌≤◌, Bool, false, true, List, [], ◌∷◌, ◌++◌, length as len, drop, chars, encode_utf8_all, Result, Ok, Err, IfOk, String, string_bytes, refl, sym, ap, ◌∙◌, arith, append-nil}
 use Rattle.std.specs.declared.alloc.Global.{Global}
 use Rattle.std.specs.String.{string_len}
-use Rattle.std.proofs.lemmas.List.{length-append}
-use Rattle.std.proofs.lemmas.Str.{IsUtf8-string_bytes, encodes-chars}
+use Rattle.std.proofs.lemmas.List.{length-append, nil_from_length}
+use Rattle.std.proofs.lemmas.Str.{IsUtf8-string_bytes, encodes-chars, chars-nil}
 use Rattle.py_flat.specs.declared.fault.IoFault.{IoFault}
 use Rattle.py_plain.specs.declared.encoding.Encoding.{Encoding}
 use Rattle.py_plain.specs.declared.newlines.Newlines.{Newlines}
@@ -11,15 +11,17 @@ use Rattle.py_plain.specs.declared.newlines.Newlines.TheVariants as rule
 use Rattle.py_plain.specs.Units.{Order, Unknown}
 use Rattle.py_plain.specs.Handlers.{Treatment}
 use Rattle.py_plain.specs.Items.{Item, Ending, AtEnd, AtRange, AtCut, Walk, characters_of}
-use Rattle.py_plain.specs.NewlineRule.{universal, read_so_far, holds_after}
+use Rattle.py_plain.specs.NewlineRule.{universal, ends_held, read_so_far, holds_after}
 use Rattle.py_plain.specs.Pieces.{items_before}
 use Rattle.py_plain.proofs.Walks.{walk-order}
 use Rattle.py_codec.specs.declared.front.FrontDecoded.{FrontDecoded}
+use Rattle.py_codec.specs.declared.front.FrontStop.TheVariants as ends
 use Rattle.py_codec.specs.Answers.{text_of}
 use Rattle.py_codec.specs.Decoding.{walk_here, walk_past}
 use Rattle.py_codec.specs.Front.{items_for, bytes_in, front_stop, GivesFront}
 use Rattle.py_blocks.proofs.Appended.{chars-fit}
-use Rattle.py_held_text.specs.Known.{IsWhole}
+use Rattle.py_text.specs.NewlinePieces.{IsCopied}
+use Rattle.py_held_text.specs.Known.{IsPart, IsPlain}
 use Rattle.py_held_text.proofs.Reading.{universal-spelled}
 
 -- items that have fewer characters than are wanted are all
@@ -36,41 +38,73 @@ stop-some (suc missing) AtEnd some = refl
 stop-some (suc missing) (AtRange start end) some = refl
 stop-some (suc missing) (AtCut start) some = refl
 
--- what was given of a decoding, where more is wanted than memory holds
+-- a front that stops for another cause than that it has as many as are wanted lacks some
+pub lacks-drained : (missing : ℕ) (ending : Ending) → front_stop missing ending ≡ ends.Drained → 1 ≤ missing
+lacks-drained zero ending is = absurd (cc)
+lacks-drained (suc missing) ending is = omega arith
+
+pub lacks-refused : (missing : ℕ) (ending : Ending) (start end : ℕ) → front_stop missing ending ≡ ends.Refused start end → 1 ≤ missing
+lacks-refused zero ending start end is = absurd (cc)
+lacks-refused (suc missing) ending start end is = omega arith
+
+-- one that has as many lacks none
+pub lacks-none : (missing : ℕ) (ending : Ending) → front_stop missing ending ≡ ends.Wanted → missing ≡ 0
+lacks-none zero ending is = refl
+lacks-none (suc missing) AtEnd is = absurd (cc)
+lacks-none (suc missing) (AtRange start end) is = absurd (cc)
+lacks-none (suc missing) (AtCut start) is = absurd (cc)
+
+-- a part that lacks characters is all
+pub record IsAll (want : ℕ) (walk : Walk) (front : FrontDecoded) : Type 0 where
+  pub stop : front.stop ≡ front_stop 1 walk.ending
+  pub items : items_for want walk.items ≡ walk.items
+
+pub part-all : (want : ℕ) (walk : Walk) (behind : ℕ → Walk) (front : FrontDecoded) → IsPart want walk behind front → 1 ≤ want - front.chars → IsAll want walk front
+part-all want walk behind front part some = record {
+  stop = part.stop ∙ stop-some (want - front.chars) walk.ending some;
+  items = all-for want walk.items (omega (arith, some, part.chars));
+}
+
+-- what was given of a decoding
 abbrev Gives : (encoding : Encoding) (treat : Treatment) (last : Bool) (bytes : List ℕ) (want : ℕ) (text : String Global) (steps later : ℕ) → FrontDecoded → Type 0
 Gives encoding treat last bytes want text steps later front = GivesFront want (items_for want (walk_here encoding treat last bytes 0).items) (walk_here encoding treat last bytes 0) (walk_past encoding treat last bytes) [] (text_of text) steps later front
 
-given-all : (encoding : Encoding) (treat : Treatment) (last : Bool) (bytes : List ℕ) (want : ℕ) (text : String Global) (steps later : ℕ) (front : FrontDecoded) → 2 ^ 63 ≤ want → Gives encoding treat last bytes want text steps later front → items_for want (walk_here encoding treat last bytes 0).items ≡ (walk_here encoding treat last bytes 0).items
-given-all encoding treat last bytes want text steps later front much gives =
-    all-for want (walk_here encoding treat last bytes 0).items (omega (arith, much, chars-fit text, ap (λ (t : List ℕ). len t) gives.2))
-
-whole : (encoding : Encoding) (treat : Treatment) (last : Bool) (bytes : List ℕ) (want : ℕ) (text : String Global) (steps later : ℕ) (front : FrontDecoded) → 2 ^ 63 ≤ want → len (characters_of (walk_here encoding treat last bytes 0).items) ≤ 6 * bytes_in (walk_here encoding treat last bytes 0).items → Gives encoding treat last bytes want text steps later front → IsWhole (walk_here encoding treat last bytes 0) (walk_here encoding treat last bytes) front
-whole encoding treat last bytes want text steps later front much few gives =
+part : (encoding : Encoding) (treat : Treatment) (last : Bool) (bytes : List ℕ) (want : ℕ) (text : String Global) (steps later : ℕ) (front : FrontDecoded) → len (characters_of (items_for want (walk_here encoding treat last bytes 0).items)) ≤ 6 * bytes_in (items_for want (walk_here encoding treat last bytes 0).items) → Gives encoding treat last bytes want text steps later front → IsPart want (walk_here encoding treat last bytes 0) (walk_here encoding treat last bytes) front
+part encoding treat last bytes want text steps later front few gives =
     let walk : Walk = walk_here encoding treat last bytes 0 in
-    let all : items_for want walk.items ≡ walk.items = given-all encoding treat last bytes want text steps later front much gives in
-    let used : front.used ≡ bytes_in walk.items = gives.0.used ∙ ap bytes_in all in
-    let count : front.chars ≡ len (characters_of walk.items) = gives.0.chars ∙ ap (λ (is : List Item). len (characters_of is)) all in
+    let items : List Item = items_for want walk.items in
     let reached : Order = gives.1.0 in
-    let fits : len (characters_of walk.items) < 2 ^ 63 = omega (arith, chars-fit text, ap (λ (t : List ℕ). len t) gives.2, ap (λ (is : List Item). len (characters_of is)) all) in
     let unknown : reached ≡ Unknown = sym (walk-order encoding treat last reached front.used 0 (drop front.used bytes)) ∙ (ap (λ (w : Walk). w.order) (sym gives.1.1) ∙ walk-order encoding treat last Unknown 0 0 (drop 0 bytes)) in
     record {
-      used = used;
-      chars = count;
-      few = omega (arith, used, count, few);
-      stop = gives.0.stop ∙ (ap (λ (is : List Item). front_stop (want - len (characters_of is)) walk.ending) all ∙ stop-some (want - len (characters_of walk.items)) walk.ending (omega (arith, much, fits)));
-      goes_on = gives.1.1 ∙ (ap (λ (is : List Item). items_before is (walk_past encoding treat last bytes reached front.used)) all ∙ ap (λ (order : Order). items_before walk.items (walk_past encoding treat last bytes order front.used)) unknown);
+      used = gives.0.used;
+      chars = gives.0.chars;
+      few = omega (arith, gives.0.used, gives.0.chars, few);
+      fits = omega (arith, gives.0.chars, chars-fit text, ap (λ (t : List ℕ). len t) gives.2);
+      stop = gives.0.stop ∙ ap (λ (n : ℕ). front_stop (want - n) walk.ending) (sym gives.0.chars);
+      goes_on = gives.1.1 ∙ ap (λ (order : Order). items_before items (walk_past encoding treat last bytes order front.used)) unknown;
     }
 
 -- what a decoding that was answered is
-pub whole-if : (encoding : Encoding) (treat : Treatment) (last : Bool) (bytes : List ℕ) (want steps later : ℕ) (result : Result (String Global × FrontDecoded) IoFault) → 2 ^ 63 ≤ want → len (characters_of (walk_here encoding treat last bytes 0).items) ≤ 6 * bytes_in (walk_here encoding treat last bytes 0).items → IfOk result (λ t. Gives encoding treat last bytes want t.0 steps later t.1) → IfOk result (λ t. IsWhole (walk_here encoding treat last bytes 0) (walk_here encoding treat last bytes) t.1)
-whole-if encoding treat last bytes want steps later (Ok t) much few gives = whole encoding treat last bytes want t.0 steps later t.1 much few gives
-whole-if encoding treat last bytes want steps later (Err why) much few gives = tt
+pub part-if : (encoding : Encoding) (treat : Treatment) (last : Bool) (bytes : List ℕ) (want steps later : ℕ) (result : Result (String Global × FrontDecoded) IoFault) → len (characters_of (items_for want (walk_here encoding treat last bytes 0).items)) ≤ 6 * bytes_in (items_for want (walk_here encoding treat last bytes 0).items) → IfOk result (λ t. Gives encoding treat last bytes want t.0 steps later t.1) → IfOk result (λ t. IsPart want (walk_here encoding treat last bytes 0) (walk_here encoding treat last bytes) t.1)
+part-if encoding treat last bytes want steps later (Ok t) few gives = part encoding treat last bytes want t.0 steps later t.1 few gives
+part-if encoding treat last bytes want steps later (Err why) few gives = tt
 
-pub text-if : (encoding : Encoding) (treat : Treatment) (last : Bool) (bytes : List ℕ) (want steps later : ℕ) (result : Result (String Global × FrontDecoded) IoFault) → 2 ^ 63 ≤ want → IfOk result (λ t. Gives encoding treat last bytes want t.0 steps later t.1) → IfOk result (λ t. text_of t.0 ≡ characters_of (walk_here encoding treat last bytes 0).items)
-text-if encoding treat last bytes want steps later (Ok t) much gives = gives.2 ∙ ap (λ (is : List Item). characters_of is) (given-all encoding treat last bytes want t.0 steps later t.1 much gives)
-text-if encoding treat last bytes want steps later (Err why) much gives = tt
+pub text-if : (encoding : Encoding) (treat : Treatment) (last : Bool) (bytes : List ℕ) (want steps later : ℕ) (result : Result (String Global × FrontDecoded) IoFault) → IfOk result (λ t. Gives encoding treat last bytes want t.0 steps later t.1) → IfOk result (λ t. text_of t.0 ≡ characters_of (items_for want (walk_here encoding treat last bytes 0).items))
+text-if encoding treat last bytes want steps later (Ok t) gives = gives.2
+text-if encoding treat last bytes want steps later (Err why) gives = tt
 
 -- By the universal rule.
+
+-- a text in which no CR stands
+pub plain-text : (cs : List ℕ) → IsCopied cs cs false (chars []) → IsPlain cs true
+plain-text cs copied = λ is. (
+  copied.gives ∙ (ap (λ (t : List ℕ). cs ++ universal false t) chars-nil ∙ append-nil cs),
+  copied.holds ∙ ap (ends_held false) chars-nil,
+)
+
+-- a text behind none
+pub behind-empty : (text more : String Global) → string_len text ≡ 0 → text_of more ≡ text_of text ++ text_of more
+behind-empty text more none = ap (λ (t : List ℕ). t ++ text_of more) (sym (ap chars (nil_from_length (string_bytes text) (omega (arith, none, text.bytes.ok.0))) ∙ chars-nil))
 
 -- a string has so many bytes
 pub string-spelled : (text : String Global) → string_len text ≡ len (encode_utf8_all (text_of text))
@@ -87,8 +121,14 @@ as-came rule.Lf cr cs is = (refl, refl)
 as-came rule.Cr cr cs is = (refl, refl)
 as-came rule.Crlf cr cs is = (refl, refl)
 
--- what the rule gives of what was decoded has as many characters as this
-pub read-count : (newline : Newlines) (cr : Bool) (cs : List ℕ) (raw read : String Global) → newline ≡ rule.Universal → text_of raw ≡ cs → text_of read ≡ read_so_far newline cr cs → len cs + string_len read ≡ string_len raw + len (read_so_far newline cr cs)
-read-count newline cr cs raw read is raw_is read_is =
-    let same : read_so_far newline cr cs ≡ universal cr cs = ap (λ (n : Newlines). read_so_far n cr cs) is in
-    omega (arith, string-spelled read, string-spelled raw, universal-spelled cr cs, ap (λ (t : List ℕ). len t) same, ap (λ (t : List ℕ). len (encode_utf8_all t)) (read_is ∙ same), ap (λ (t : List ℕ). len (encode_utf8_all t)) raw_is)
+same-count : (cs : List ℕ) (raw read : String Global) → text_of raw ≡ cs → text_of read ≡ cs → len cs + string_len read ≡ string_len raw + len cs
+same-count cs raw read raw_is read_is = omega (arith, string-spelled read, string-spelled raw, ap (λ (t : List ℕ). len (encode_utf8_all t)) (read_is ∙ sym raw_is))
+
+-- what a rule gives of what was decoded has as many characters as this
+pub read-count : (newline : Newlines) (cr : Bool) (cs : List ℕ) (raw read : String Global) → text_of raw ≡ cs → text_of read ≡ read_so_far newline cr cs → len cs + string_len read ≡ string_len raw + len (read_so_far newline cr cs)
+read-count rule.Universal cr cs raw read raw_is read_is =
+    omega (arith, string-spelled read, string-spelled raw, universal-spelled cr cs, ap (λ (t : List ℕ). len (encode_utf8_all t)) read_is, ap (λ (t : List ℕ). len (encode_utf8_all t)) raw_is)
+read-count rule.Passthrough cr cs raw read raw_is read_is = same-count cs raw read raw_is read_is
+read-count rule.Lf cr cs raw read raw_is read_is = same-count cs raw read raw_is read_is
+read-count rule.Cr cr cs raw read raw_is read_is = same-count cs raw read raw_is read_is
+read-count rule.Crlf cr cs raw read raw_is read_is = same-count cs raw read raw_is read_is

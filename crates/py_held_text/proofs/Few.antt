@@ -1,5 +1,6 @@
 -- How many characters a decoding gives for its bytes: at most six for each.
-use Rattle.std.proofs.Common.{◌≡◌, ℕ, zero, suc, ◌+◌, ◌*◌, ◌<◌, ◌≤◌, Bool, true, false, nat_eq, nat_lt, if◌then◌else◌, List, [], ◌∷◌, ◌++◌, length as len, get_or, take, codes, decimal, Option, Some, None, IfSome, refl, ap, arith}
+use Rattle.std.proofs.Common.{◌≡◌, ℕ, zero, suc, ◌+◌, ◌-◌, ◌*◌, ◌<◌, ◌≤◌, Bool, true, false, nat_eq, nat_lt, if◌then◌else◌, List, [], ◌∷◌, ◌++◌, length as len, get_or, take, codes, decimal, Option, Some, None, IfSome, refl, ap, arith}
+use Rattle.std.specs.Bool.{⊤}
 use Rattle.std.proofs.Math.Nat.{mul-suc}
 use Rattle.std.proofs.lemmas.Bool.{cond-true, lt-ltb}
 use Rattle.std.proofs.lemmas.Fmt.{length-decimal-le}
@@ -15,11 +16,11 @@ use Rattle.py_plain.specs.Escapes.{hex_digits, backslash_escape, surrogate_escap
 use Rattle.py_plain.specs.Units.{Order, first_unit, order_after}
 use Rattle.py_plain.specs.UnitLaws.{IsWithin, AreBytes}
 use Rattle.py_plain.specs.Handlers.{Replaced, Treatment, treatment, reads_texts, front_past_ascii, escaped}
-use Rattle.py_plain.specs.Items.{FirstItem, Given, RefusedRange, Unfinished, item_of, first_item, used_behind, Walk, onto_walk, walk_from, characters_of}
+use Rattle.py_plain.specs.Items.{FirstItem, Given, RefusedRange, Unfinished, item_of, first_item, used_behind, Item, Walk, onto_walk, walk_from, characters_of}
 use Rattle.py_plain.proofs.AnyUnits.{unit_within_any}
 use Rattle.py_plain.proofs.Items.{handled_given, cut_given}
 use Rattle.py_plain.proofs.Looking.{escaped_whole}
-use Rattle.py_codec.specs.Front.{bytes_in}
+use Rattle.py_codec.specs.Front.{items_for, bytes_in}
 
 -- What stands for a refused range.
 
@@ -98,16 +99,18 @@ item-few treat last place left bytes (Some (Malformed n)) characters used few al
 item-few treat last place left bytes (Some (Cut n)) characters used few all within is =
     few place n bytes characters used within.0 all (cut_given last n (treat place bytes n) characters used is)
 
-abbrev FewIn : Walk → Type 0
-FewIn walk = len (characters_of walk.items) ≤ 6 * bytes_in walk.items
+-- each of some items has few
+abbrev AllFew : List Item → Type 0
+AllFew [] = ⊤
+AllFew (item ∷ items) = (len item.characters ≤ 6 * item.length) × AllFew items
 
-onto-few : (order : Order) (place : ℕ) (first : FirstItem) (walk : Walk) → ((characters : List ℕ) (used : ℕ) → first ≡ Given characters used → len characters ≤ 6 * used) → FewIn walk → FewIn (onto_walk order place first walk)
-onto-few order place (Given characters used) walk here behind = omega (arith, here characters used refl, behind, length-append characters (characters_of walk.items))
-onto-few order place (RefusedRange size) walk here behind = omega arith
-onto-few order place Unfinished walk here behind = omega arith
+onto-few : (order : Order) (place : ℕ) (first : FirstItem) (walk : Walk) → ((characters : List ℕ) (used : ℕ) → first ≡ Given characters used → len characters ≤ 6 * used) → AllFew walk.items → AllFew (onto_walk order place first walk).items
+onto-few order place (Given characters used) walk here behind = (here characters used refl, behind)
+onto-few order place (RefusedRange size) walk here behind = tt
+onto-few order place Unfinished walk here behind = tt
 
-pub walk-few : (encoding : Encoding) (treat : Treatment) (last : Bool) (order : Order) (place skip : ℕ) (bytes : List ℕ) → IsFew treat → AreBytes bytes → FewIn (walk_from encoding treat last order place skip bytes)
-walk-few encoding treat last order place skip [] few all = omega arith
+walk-few : (encoding : Encoding) (treat : Treatment) (last : Bool) (order : Order) (place skip : ℕ) (bytes : List ℕ) → IsFew treat → AreBytes bytes → AllFew (walk_from encoding treat last order place skip bytes).items
+walk-few encoding treat last order place skip [] few all = tt
 walk-few encoding treat last order place (suc skip) (byte ∷ rest) few all = walk-few encoding treat last order (place + 1) skip rest few (All-tail is-byte byte rest all)
 walk-few encoding treat last order place zero (byte ∷ rest) few all =
     let at_start = nat_eq place 0 in
@@ -118,9 +121,18 @@ walk-few encoding treat last order place zero (byte ∷ rest) few all =
     (λ characters used is. item-few treat last place (len bytes) bytes (first_unit encoding order at_start bytes) characters used few all (unit_within_any encoding order at_start bytes) is)
     (walk-few encoding treat last next (place + 1) (used_behind first) rest few (All-tail is-byte byte rest all))
 
--- a decoding by a handler that texts are read with
-pub decoded-few : (handler : Handler) (encoding : Encoding) → reads_texts handler ≡ true → (last : Bool) (order : Order) (place : ℕ) (bytes : List ℕ) → AreBytes bytes → FewIn (walk_from encoding (treatment handler encoding) last order place 0 bytes)
-decoded-few handler encoding reads last order place bytes all = walk-few encoding (treatment handler encoding) last order place 0 bytes (handler-few handler encoding reads) all
+-- a front of such items has few
+few-for : (want : ℕ) (items : List Item) → AllFew items → len (characters_of (items_for want items)) ≤ 6 * bytes_in (items_for want items)
+few-for zero items all = omega arith
+few-for (suc more) [] all = omega arith
+few-for (suc more) (item ∷ items) all =
+    let missing : ℕ = suc more - len item.characters in
+    omega (arith, all.0, few-for missing items all.1, length-append item.characters (characters_of (items_for missing items)))
+
+-- the front of a decoding by a handler that texts are read with
+pub decoded-few : (handler : Handler) (encoding : Encoding) → reads_texts handler ≡ true → (last : Bool) (order : Order) (place : ℕ) (bytes : List ℕ) → AreBytes bytes → (want : ℕ) → len (characters_of (items_for want (walk_from encoding (treatment handler encoding) last order place 0 bytes).items)) ≤ 6 * bytes_in (items_for want (walk_from encoding (treatment handler encoding) last order place 0 bytes).items)
+decoded-few handler encoding reads last order place bytes all want =
+    few-for want (walk_from encoding (treatment handler encoding) last order place 0 bytes).items (walk-few encoding (treatment handler encoding) last order place 0 bytes (handler-few handler encoding reads) all)
 
 -- the items of a slice of bytes
 pub all-bytes : (bytes : List ℕ) → ((at : ℕ) → get_or bytes at 0 < 0x100) → AreBytes bytes

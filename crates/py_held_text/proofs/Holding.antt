@@ -1,6 +1,6 @@
 -- What a text has in hand after a decoding.
-use Rattle.std.proofs.Common.{◌≡◌, ℕ, zero, suc, ◌+◌, ◌≤◌, Bool, true, false, nat_eq, List, [], ◌∷◌, ◌++◌, length as len, take, drop, Option, Some, None, option_map, IfSome, refl, sym, ap, subst, ◌∙◌, arith, append_assoc, append-nil, true≢false}
-use Rattle.std.proofs.lemmas.List.{length-append, take-append-drop}
+use Rattle.std.proofs.Common.{◌≡◌, ℕ, zero, suc, ◌+◌, ◌≤◌, Bool, true, false, nat_eq, List, [], ◌∷◌, ◌++◌, length as len, take, drop, Option, Some, None, Result, Ok, Err, option_map, IfSome, refl, sym, ap, subst, ◌∙◌, arith, append_assoc, append-nil, true≢false}
+use Rattle.std.proofs.lemmas.List.{length-append, take-append-drop, drop_all, take_all}
 use Rattle.py_plain.specs.declared.encoding.Encoding.{Encoding}
 use Rattle.py_plain.specs.declared.newlines.Newlines.{Newlines}
 use Rattle.py_plain.specs.declared.unit.Unit.{Unit as Read}
@@ -18,17 +18,21 @@ use Rattle.py_plain_text.specs.Rest.{Rest}
 use Rattle.py_codec.specs.declared.front.FrontDecoded.{FrontDecoded}
 use Rattle.py_codec.specs.declared.front.FrontStop.TheVariants as front
 use Rattle.py_codec.specs.Decoding.{walk_here}
-use Rattle.py_codec.specs.Front.{front_stop}
+use Rattle.py_codec.specs.Front.{items_for, front_stop}
 use Rattle.py_incremental.proofs.Cuts.{walk_cut}
 use Rattle.py_incremental.proofs.Feeding.{ignores}
 use Rattle.py_incremental.proofs.Moving.{IgnoresPlace, moved}
 use Rattle.py_text.specs.declared.coder.Coder.{Coder}
 use Rattle.py_text.proofs.Joining.{read-both}
 use Rattle.py_held_text.specs.Held.{HeldView, kept_of}
-use Rattle.py_held_text.specs.Decodes.{Decodes, IsDrained, RefusesNext}
-use Rattle.py_held_text.specs.Known.{KnownView, reading, IsWhole}
+use Rattle.py_flat.specs.declared.fault.IoFault.{IoFault}
+use Rattle.py_held_text.specs.declared.held_stop.HeldStop.{HeldStop}
+use Rattle.py_held_text.specs.declared.held_stop.HeldStop.TheVariants as stop
+use Rattle.py_held_text.specs.Decodes.{Decodes, IsDrained, RefusesNext, PartOutcome, DecodeOutcome}
+use Rattle.py_held_text.specs.Known.{KnownView, reading, IsPart}
+use Rattle.py_held_text.proofs.Decoded.{IsAll}
 use Rattle.py_held_text.proofs.Reading.{all-both, read-few}
-use Rattle.py_held_text.proofs.Walking.{Leaves, rest-none, rest-ending, split, on-whole, on-so-far, still, precedes}
+use Rattle.py_held_text.proofs.Walking.{Leaves, rest-none, rest-ending, split, passed, part-left, still, precedes}
 
 -- Where a walk is refused.
 
@@ -84,11 +88,6 @@ stop-drained AtEnd is = refl
 stop-drained (AtCut at) is = refl
 stop-drained (AtRange from to) is = absurd (cc)
 
-pub stop-wanted : (ending : Ending) → front_stop 1 ending ≡ front.Wanted → refusal_of ending ≡ None
-stop-wanted AtEnd is = absurd (cc)
-stop-wanted (AtCut at) is = absurd (cc)
-stop-wanted (AtRange from to) is = absurd (cc)
-
 moved-refusal : (by : ℕ) (ending : Ending) → refusal_of ending ≡ None → refusal_of (moved by ending) ≡ None
 moved-refusal by AtEnd is = refl
 moved-refusal by (AtCut at) is = refl
@@ -128,47 +127,61 @@ kept-whole false from end count items new bytes same is = refl
 abbrev pub whole-walk : Coder → Bool → List ℕ → Walk
 whole-walk coder last bytes = walk_at coder.encoding (treatment coder.errors coder.encoding) last Unknown 0 bytes
 
--- all of them were decoded as far as they go
-abbrev pub AllDecoded : Coder → Bool → List ℕ → FrontDecoded → Type 0
-AllDecoded coder last bytes decoded = IsWhole (whole-walk coder last bytes) (walk_here coder.encoding (treatment coder.errors coder.encoding) last bytes) decoded
+-- some items of them were decoded
+abbrev pub PartDecoded : Coder → Bool → (want : ℕ) → List ℕ → FrontDecoded → Type 0
+PartDecoded coder last want bytes decoded = IsPart want (whole-walk coder last bytes) (walk_here coder.encoding (treatment coder.errors coder.encoding) last bytes) decoded
 
-leaves-by : (coder : Coder) (last : Bool) (bytes : List ℕ) (decoded : FrontDecoded) → AllDecoded coder last bytes decoded → decoded.used ≤ len bytes → Leaves coder.encoding (treatment coder.errors coder.encoding) last bytes decoded.used
-leaves-by coder last bytes decoded whole within = record { within = within; goes_on = whole.goes_on }
+-- those items
+abbrev pub part-items : Coder → Bool → (want : ℕ) → List ℕ → List Item
+part-items coder last want bytes = items_for want (whole-walk coder last bytes).items
 
-decodes-here : (coder : Coder) (known : KnownView) (kept kept_now : Option (List ℕ)) (bytes : List ℕ) (place room more_room : ℕ) (last : Bool) (decoded : FrontDecoded) → reads_texts coder.errors ≡ true → AllDecoded coder last bytes decoded → decoded.used ≤ len bytes → whole-by kept_now (drop decoded.used bytes) ≡ whole-by kept bytes → room ≤ more_room → Decodes last (held-by coder known kept bytes place room) (held-by coder (reading known (characters_of (whole-walk coder last bytes).items)) kept_now (drop decoded.used bytes) (place + decoded.used) more_room)
-decodes-here coder known kept kept_now bytes place room more_room last decoded reads whole within same more =
+leaves-by : (coder : Coder) (last : Bool) (want : ℕ) (bytes : List ℕ) (decoded : FrontDecoded) → PartDecoded coder last want bytes decoded → decoded.used ≤ len bytes → Leaves coder.encoding (treatment coder.errors coder.encoding) last bytes decoded.used (part-items coder last want bytes)
+leaves-by coder last want bytes decoded part within = record { within = within; goes_on = part.goes_on }
+
+decodes-here : (coder : Coder) (known : KnownView) (kept kept_now : Option (List ℕ)) (bytes : List ℕ) (size place room more_room want : ℕ) (last : Bool) (decoded : FrontDecoded) → reads_texts coder.errors ≡ true → (last ≡ true → size ≡ len bytes) → PartDecoded coder last want (take size bytes) decoded → decoded.used ≤ len (take size bytes) → whole-by kept_now (drop decoded.used bytes) ≡ whole-by kept bytes → room ≤ more_room → Decodes last (held-by coder known kept bytes place room) (held-by coder (reading known (characters_of (part-items coder last want (take size bytes)))) kept_now (drop decoded.used bytes) (place + decoded.used) more_room)
+decodes-here coder known kept kept_now bytes size place room more_room want last decoded reads all part within same more =
     let encoding : Encoding = coder.encoding in
     let treat : Treatment = treatment coder.errors encoding in
-    let items : List Item = (whole-walk coder last bytes).items in
+    let items : List Item = part-items coder last want (take size bytes) in
     let cs : List ℕ = characters_of items in
     let used : ℕ = decoded.used in
     let rest : List ℕ = drop used bytes in
-    let looks : LooksAtRange treat = looks_at coder.errors encoding reads in
-    let leaves = leaves-by coder last bytes decoded whole within in
+    let passes = passed encoding treat (looks_at coder.errors encoding reads) last bytes size used items all (leaves-by coder last want (take size bytes) decoded part within) in
     record {
       settings = record { encoding = refl; handler = refl; newline = refl };
       used = used;
-      within = within;
+      within = passes.within;
       bytes = refl;
       place = refl;
       room = more;
       whole = same;
       grows = (read_so_far known.newline known.cr cs, refl);
-      few = omega (arith, read-few known.newline known.cr cs, length-append known.characters (read_so_far known.newline known.cr cs), whole.few, whole.chars);
+      few = omega (arith, read-few known.newline known.cr cs, length-append known.characters (read_so_far known.newline known.cr cs), part.few, part.chars);
       left = λ further none.
-          let walks = precedes encoding treat (ignores coder.errors encoding) true place used (bytes ++ further) (rest ++ further) items (on-whole encoding treat looks last bytes further used leaves none) in
+          let walks = precedes encoding treat (ignores coder.errors encoding) true place used (bytes ++ further) (rest ++ further) items (passes.whole further none) in
           rest-same _ _ _ _ (moved-all known.newline known.cr known.characters cs _ _ walks.characters) (sym walks.refusal);
       so_far = λ is further.
-          let walks = precedes encoding treat (ignores coder.errors encoding) false place used (bytes ++ further) (rest ++ further) items (on-so-far encoding treat looks last bytes used leaves is further) in
+          let walks = precedes encoding treat (ignores coder.errors encoding) false place used (bytes ++ further) (rest ++ further) items (passes.so_far is further) in
           rest-same _ _ _ _ (moved-so-far known.newline known.cr known.characters cs _ _ walks.characters) (sym walks.refusal);
     }
 
 -- a decoding is what a text in hand does
-pub decodes-by : (coder : Coder) (known after : KnownView) (kept kept_now : Option (List ℕ)) (bytes rest : List ℕ) (place room more_room : ℕ) (last : Bool) (decoded : FrontDecoded) → reads_texts coder.errors ≡ true → AllDecoded coder last bytes decoded → after ≡ reading known (characters_of (whole-walk coder last bytes).items) → decoded.used ≤ len bytes → rest ≡ drop decoded.used bytes → whole-by kept_now rest ≡ whole-by kept bytes → room ≤ more_room → Decodes last (held-by coder known kept bytes place room) (held-by coder after kept_now rest (place + decoded.used) more_room)
-decodes-by coder known after kept kept_now bytes rest place room more_room last decoded reads whole after_is within rest_is same more =
+pub decodes-by : (coder : Coder) (known after : KnownView) (kept kept_now : Option (List ℕ)) (bytes rest : List ℕ) (size place room more_room want : ℕ) (last : Bool) (decoded : FrontDecoded) → reads_texts coder.errors ≡ true → (last ≡ true → size ≡ len bytes) → PartDecoded coder last want (take size bytes) decoded → after ≡ reading known (characters_of (part-items coder last want (take size bytes))) → decoded.used ≤ len (take size bytes) → rest ≡ drop decoded.used bytes → whole-by kept_now rest ≡ whole-by kept bytes → room ≤ more_room → Decodes last (held-by coder known kept bytes place room) (held-by coder after kept_now rest (place + decoded.used) more_room)
+decodes-by coder known after kept kept_now bytes rest size place room more_room want last decoded reads all part after_is within rest_is same more =
     subst (λ (k : KnownView). Decodes last (held-by coder known kept bytes place room) (held-by coder k kept_now rest (place + decoded.used) more_room)) (sym after_is)
-    (subst (λ (r : List ℕ). Decodes last (held-by coder known kept bytes place room) (held-by coder (reading known (characters_of (whole-walk coder last bytes).items)) kept_now r (place + decoded.used) more_room)) (sym rest_is)
-    (decodes-here coder known kept kept_now bytes place room more_room last decoded reads whole within (ap (whole-by kept_now) (sym rest_is) ∙ same) more))
+    (subst (λ (r : List ℕ). Decodes last (held-by coder known kept bytes place room) (held-by coder (reading known (characters_of (part-items coder last want (take size bytes)))) kept_now r (place + decoded.used) more_room)) (sym rest_is)
+    (decodes-here coder known kept kept_now bytes size place room more_room want last decoded reads all part within (ap (whole-by kept_now) (sym rest_is) ∙ same) more))
+
+-- a part that is all
+pub all-of : (coder : Coder) (last : Bool) (want : ℕ) (bytes : List ℕ) (size : ℕ) (decoded : FrontDecoded) → size ≡ len bytes → PartDecoded coder last want (take size bytes) decoded → PartDecoded coder last want bytes decoded
+all-of coder last want bytes size decoded is part = subst (λ (b : List ℕ). PartDecoded coder last want b decoded) (take_all size bytes (omega (arith, is))) part
+
+-- a decoding of a part, where more may come
+pub part-decodes : (whole : Bool) (size want : ℕ) (old new : HeldView) (result : Result HeldStop IoFault) → (whole ≡ true → size ≡ len old.bytes) → PartOutcome false size want old result new → DecodeOutcome whole old result new
+part-decodes whole size want old new (Ok stop.More) all outcome = (outcome.0, λ is. (outcome.1 (all is)).some)
+part-decodes whole size want old new (Ok stop.Drained) all outcome = outcome
+part-decodes whole size want old new (Ok (stop.Refused start end)) all outcome = outcome
+part-decodes whole size want old new (Err why) all outcome = outcome
 
 -- Nothing is left that is an item.
 
@@ -190,16 +203,17 @@ empty-if : (encoding : Encoding) (treat : Treatment) (last : Bool) (place : ℕ)
 empty-if encoding treat true place bytes none ends is = last-empty encoding treat place bytes none ends
 empty-if encoding treat false place bytes none ends is = absurd (cc)
 
-pub drained-by : (coder : Coder) (after : KnownView) (kept : Option (List ℕ)) (bytes rest : List ℕ) (place room : ℕ) (last : Bool) (decoded : FrontDecoded) → AllDecoded coder last bytes decoded → decoded.used ≤ len bytes → rest ≡ drop decoded.used bytes → refusal_of (whole-walk coder last bytes).ending ≡ None → IsDrained last (held-by coder after kept rest (place + decoded.used) room)
-drained-by coder after kept bytes rest place room last decoded whole within rest_is ends_so =
+pub drained-by : (coder : Coder) (after : KnownView) (kept : Option (List ℕ)) (bytes rest : List ℕ) (place room want : ℕ) (last : Bool) (decoded : FrontDecoded) → PartDecoded coder last want bytes decoded → IsAll want (whole-walk coder last bytes) decoded → decoded.used ≤ len bytes → rest ≡ drop decoded.used bytes → decoded.stop ≡ front.Drained → IsDrained last (held-by coder after kept rest (place + decoded.used) room)
+drained-by coder after kept bytes rest place room want last decoded part all within rest_is is_drained =
     let encoding : Encoding = coder.encoding in
     let treat : Treatment = treatment coder.errors encoding in
     let used : ℕ = decoded.used in
     let left : List ℕ = drop used bytes in
-    let leaves = leaves-by coder last bytes decoded whole within in
-    let none = rest-none encoding treat last bytes used leaves in
+    let items : List Item = part-items coder last want bytes in
+    let leaves = leaves-by coder last want bytes decoded part within in
+    let none = rest-none encoding treat last bytes used items leaves all.items in
     let ending : Ending = (walk_at encoding treat last Unknown used left).ending in
-    let refusal : refusal_of ending ≡ None = ap refusal_of (rest-ending encoding treat last bytes used leaves) ∙ ends_so in
+    let refusal : refusal_of ending ≡ None = ap refusal_of (rest-ending encoding treat last bytes used items leaves) ∙ stop-drained (whole-walk coder last bytes).ending (sym all.stop ∙ is_drained) in
     let here : walk_at encoding treat last Unknown (place + used) (rest ++ []) ≡ ends Unknown (moved place ending) =
     ap (walk_at encoding treat last Unknown (place + used)) (append-nil rest ∙ rest_is) ∙ still encoding treat last place used left (ignores coder.errors encoding) none in
     record {
@@ -237,21 +251,23 @@ ends-there : (encoding : Encoding) (treat : Treatment) (final : Bool) (by place 
 ends-there encoding treat final by place bytes start end anywhere is =
     still encoding treat final by place bytes anywhere (ap (λ (w : Walk). w.items) is) ∙ ap (λ (w : Walk). ends Unknown (moved by w.ending)) is
 
-refuses-here : (coder : Coder) (after : KnownView) (kept : Option (List ℕ)) (bytes : List ℕ) (place room : ℕ) (last : Bool) (decoded : FrontDecoded) (start end : ℕ) → reads_texts coder.errors ≡ true → AllDecoded coder last bytes decoded → decoded.used ≤ len bytes → (whole-walk coder last bytes).ending ≡ AtRange start end → RefusesNext last (held-by coder after kept (drop decoded.used bytes) (place + decoded.used) room) (place + start) (place + end)
-refuses-here coder after kept bytes place room last decoded start end reads whole within is =
+-- a range that is refused comes next, whatever stands behind the part that it was met in
+pub refuses-by : (coder : Coder) (after : KnownView) (kept : Option (List ℕ)) (bytes rest : List ℕ) (size place room want : ℕ) (last : Bool) (decoded : FrontDecoded) (start end : ℕ) → reads_texts coder.errors ≡ true → (last ≡ true → size ≡ len bytes) → PartDecoded coder last want (take size bytes) decoded → IsAll want (whole-walk coder last (take size bytes)) decoded → decoded.used ≤ len (take size bytes) → rest ≡ drop decoded.used bytes → decoded.stop ≡ front.Refused start end → RefusesNext last (held-by coder after kept rest (place + decoded.used) room) (place + start) (place + end)
+refuses-by coder after kept bytes rest size place room want last decoded start end reads whole part all within rest_is is_refused =
     let encoding : Encoding = coder.encoding in
     let treat : Treatment = treatment coder.errors encoding in
     let used : ℕ = decoded.used in
-    let left : List ℕ = drop used bytes in
+    let front_bytes : List ℕ = take size bytes in
+    let left : List ℕ = drop used front_bytes in
+    let tail : List ℕ = drop size bytes in
     let looks : LooksAtRange treat = looks_at coder.errors encoding reads in
-    let leaves = leaves-by coder last bytes decoded whole within in
-    let none = rest-none encoding treat last bytes used leaves in
-    let ending = rest-ending encoding treat last bytes used leaves ∙ is in
+    let items : List Item = part-items coder last want front_bytes in
+    let leaves = leaves-by coder last want front_bytes decoded part within in
+    let none = rest-none encoding treat last front_bytes used items leaves all.items in
+    let ending = rest-ending encoding treat last front_bytes used items leaves ∙ stop-range (whole-walk coder last front_bytes).ending start end (sym all.stop ∙ is_refused) in
+    let joined : (more : List ℕ) → rest ++ more ≡ left ++ (tail ++ more) = λ more. ap (λ (b : List ℕ). b ++ more) (rest_is ∙ part-left bytes size used within) ∙ append_assoc left tail more in
+    let nothing : (more : List ℕ) → (last ≡ true → more ≡ []) → last ≡ true → tail ++ more ≡ [] = λ more ends_so is. ap (λ (b : List ℕ). b ++ more) (drop_all size bytes (omega (arith, whole is))) ∙ ends_so is in
     record {
-      whole = λ more ends_so. ends-there encoding treat true place used (left ++ more) start end (ignores coder.errors encoding) (refuses-whole encoding treat looks last used left more start end none ending ends_so);
-      so_far = λ more_comes more. ends-there encoding treat false place used (left ++ more) start end (ignores coder.errors encoding) (refuses-so-far encoding treat looks last used left more start end none ending more_comes);
+      whole = λ more ends_so. ap (walk_at encoding treat true Unknown (place + used)) (joined more) ∙ ends-there encoding treat true place used (left ++ (tail ++ more)) start end (ignores coder.errors encoding) (refuses-whole encoding treat looks last used left (tail ++ more) start end none ending (nothing more ends_so));
+      so_far = λ more_comes more. ap (walk_at encoding treat false Unknown (place + used)) (joined more) ∙ ends-there encoding treat false place used (left ++ (tail ++ more)) start end (ignores coder.errors encoding) (refuses-so-far encoding treat looks last used left (tail ++ more) start end none ending more_comes);
     }
-
-pub refuses-by : (coder : Coder) (after : KnownView) (kept : Option (List ℕ)) (bytes rest : List ℕ) (place room : ℕ) (last : Bool) (decoded : FrontDecoded) (start end : ℕ) → reads_texts coder.errors ≡ true → AllDecoded coder last bytes decoded → decoded.used ≤ len bytes → rest ≡ drop decoded.used bytes → (whole-walk coder last bytes).ending ≡ AtRange start end → RefusesNext last (held-by coder after kept rest (place + decoded.used) room) (place + start) (place + end)
-refuses-by coder after kept bytes rest place room last decoded start end reads whole within rest_is is =
-    subst (λ (r : List ℕ). RefusesNext last (held-by coder after kept r (place + decoded.used) room) (place + start) (place + end)) (sym rest_is) (refuses-here coder after kept bytes place room last decoded start end reads whole within is)

@@ -1,6 +1,6 @@
 -- The decoding of bytes in hand, and of what comes behind them, after a front of them was decoded.
-use Rattle.std.proofs.Common.{◌≡◌, ℕ, ◌+◌, ◌-◌, ◌≤◌, Bool, true, false, List, [], ◌∷◌, ◌++◌, length as len, drop, refl, sym, ap, subst, ◌∙◌, arith, append-nil, true≢false}
-use Rattle.std.proofs.lemmas.List.{length-drop, drop-drop}
+use Rattle.std.proofs.Common.{◌≡◌, ℕ, ◌+◌, ◌-◌, ◌≤◌, Bool, true, false, List, [], ◌∷◌, ◌++◌, length as len, take, drop, refl, sym, ap, subst, ◌∙◌, arith, append-nil, append_assoc, true≢false}
+use Rattle.std.proofs.lemmas.List.{length-drop, length-take, drop-drop, drop-append-le, take-append-drop, take_all}
 use Rattle.py_plain.specs.declared.encoding.Encoding.{Encoding}
 use Rattle.py_plain.specs.Units.{Order, Unknown}
 use Rattle.py_plain.specs.Handlers.{Treatment}
@@ -20,18 +20,18 @@ none-more : (items more : List Item) → items ≡ items ++ more → more ≡ []
 none-more [] more is = sym is
 none-more (item ∷ items) more is = none-more items more (ap behind-first is)
 
--- a front of some bytes was decoded, all items of them: the decoding goes on behind it, with none
-pub record Leaves (encoding : Encoding) (treat : Treatment) (last : Bool) (bytes : List ℕ) (used : ℕ) : Type 0 where
+-- some items of some bytes were decoded: the decoding goes on behind them
+pub record Leaves (encoding : Encoding) (treat : Treatment) (last : Bool) (bytes : List ℕ) (used : ℕ) (items : List Item) : Type 0 where
   pub within : used ≤ len bytes
-  pub goes_on : walk_at encoding treat last Unknown 0 bytes ≡ items_before (walk_at encoding treat last Unknown 0 bytes).items (walk_at encoding treat last Unknown used (drop used bytes))
+  pub goes_on : walk_at encoding treat last Unknown 0 bytes ≡ items_before items (walk_at encoding treat last Unknown used (drop used bytes))
 
--- nothing of the rest is an item
-pub rest-none : (encoding : Encoding) (treat : Treatment) (last : Bool) (bytes : List ℕ) (used : ℕ) → Leaves encoding treat last bytes used → (walk_at encoding treat last Unknown used (drop used bytes)).items ≡ []
-rest-none encoding treat last bytes used leaves =
-    none-more (walk_at encoding treat last Unknown 0 bytes).items (walk_at encoding treat last Unknown used (drop used bytes)).items (ap (λ (w : Walk). w.items) leaves.goes_on)
+-- where they are all, nothing of the rest is an item
+pub rest-none : (encoding : Encoding) (treat : Treatment) (last : Bool) (bytes : List ℕ) (used : ℕ) (items : List Item) → Leaves encoding treat last bytes used items → items ≡ (walk_at encoding treat last Unknown 0 bytes).items → (walk_at encoding treat last Unknown used (drop used bytes)).items ≡ []
+rest-none encoding treat last bytes used items leaves all =
+    none-more items (walk_at encoding treat last Unknown used (drop used bytes)).items (all ∙ ap (λ (w : Walk). w.items) leaves.goes_on)
 
-pub rest-ending : (encoding : Encoding) (treat : Treatment) (last : Bool) (bytes : List ℕ) (used : ℕ) → Leaves encoding treat last bytes used → (walk_at encoding treat last Unknown used (drop used bytes)).ending ≡ (walk_at encoding treat last Unknown 0 bytes).ending
-rest-ending encoding treat last bytes used leaves = ap (λ (w : Walk). w.ending) (sym leaves.goes_on)
+pub rest-ending : (encoding : Encoding) (treat : Treatment) (last : Bool) (bytes : List ℕ) (used : ℕ) (items : List Item) → Leaves encoding treat last bytes used items → (walk_at encoding treat last Unknown used (drop used bytes)).ending ≡ (walk_at encoding treat last Unknown 0 bytes).ending
+rest-ending encoding treat last bytes used items leaves = ap (λ (w : Walk). w.ending) (sym leaves.goes_on)
 
 -- a front and what comes behind it, by how the front ends
 abbrev pub on-behind : Encoding → Treatment → Bool → List ℕ → List Item → Ending → (place : ℕ) → (left : List ℕ) → Walk
@@ -56,33 +56,69 @@ same-behind encoding treat final bytes more used items (AtCut start) within is =
     let same : start - 0 ≡ used + (start - used) = omega (arith, cut.past) in
     ap (λ (left : List ℕ). on-behind encoding treat final more items (AtCut start) start left) (ap (λ (k : ℕ). drop k bytes) same ∙ sym (drop-drop (start - used) used bytes))
 
+both-before : (first second : List Item) (walk : Walk) → items_before (first ++ second) walk ≡ items_before first (items_before second walk)
+both-before first second walk = ap (λ (items : List Item). record walk { items = items }) (append_assoc first second walk.items)
+
 -- whatever comes behind, while more may come
-pub on-while : (encoding : Encoding) (treat : Treatment) → LooksAtRange treat → (bytes : List ℕ) (used : ℕ) → Leaves encoding treat false bytes used → (final : Bool) (more : List ℕ) → walk_at encoding treat final Unknown 0 (bytes ++ more) ≡ items_before (walk_at encoding treat false Unknown 0 bytes).items (walk_at encoding treat final Unknown used (drop used bytes ++ more))
-on-while encoding treat looks bytes used leaves final more =
+on-while : (encoding : Encoding) (treat : Treatment) → LooksAtRange treat → (bytes : List ℕ) (used : ℕ) (items : List Item) → Leaves encoding treat false bytes used items → (final : Bool) (more : List ℕ) → walk_at encoding treat final Unknown 0 (bytes ++ more) ≡ items_before items (walk_at encoding treat final Unknown used (drop used bytes ++ more))
+on-while encoding treat looks bytes used items leaves final more =
     let rest : List ℕ = drop used bytes in
-    let items : List Item = (walk_at encoding treat false Unknown 0 bytes).items in
+    let all : List Item = (walk_at encoding treat false Unknown 0 bytes).items in
+    let behind : List Item = (walk_at encoding treat false Unknown used rest).items in
     let ending : Ending = (walk_at encoding treat false Unknown used rest).ending in
-    split encoding treat looks final 0 bytes more ending (sym (rest-ending encoding treat false bytes used leaves))
-    ∙ (same-behind encoding treat final bytes more used items ending leaves.within refl
-    ∙ ap (items_before items) (sym (split encoding treat looks final used rest more ending refl ∙ ap (λ (is : List Item). on-behind encoding treat final more is ending (place_behind used rest ending) (unused used rest ending)) (rest-none encoding treat false bytes used leaves))))
+    split encoding treat looks final 0 bytes more ending (sym (rest-ending encoding treat false bytes used items leaves))
+    ∙ (same-behind encoding treat final bytes more used all ending leaves.within refl
+    ∙ (ap (λ (is : List Item). on-behind encoding treat final more is ending (place_behind used rest ending) (unused used rest ending)) (ap (λ (w : Walk). w.items) leaves.goes_on)
+    ∙ (both-before items behind (unless_refused Unknown ending (walk_at encoding treat final Unknown (place_behind used rest ending) (unused used rest ending ++ more)))
+    ∙ ap (items_before items) (sym (split encoding treat looks final used rest more ending refl)))))
 
 -- nothing comes behind
-pub on-last : (encoding : Encoding) (treat : Treatment) (last : Bool) (bytes more : List ℕ) (used : ℕ) → Leaves encoding treat last bytes used → more ≡ [] → walk_at encoding treat last Unknown 0 (bytes ++ more) ≡ items_before (walk_at encoding treat last Unknown 0 bytes).items (walk_at encoding treat last Unknown used (drop used bytes ++ more))
-on-last encoding treat last bytes more used leaves none =
-    let items : List Item = (walk_at encoding treat last Unknown 0 bytes).items in
+on-last : (encoding : Encoding) (treat : Treatment) (last : Bool) (bytes more : List ℕ) (used : ℕ) (items : List Item) → Leaves encoding treat last bytes used items → more ≡ [] → walk_at encoding treat last Unknown 0 (bytes ++ more) ≡ items_before items (walk_at encoding treat last Unknown used (drop used bytes ++ more))
+on-last encoding treat last bytes more used items leaves none =
     ap (λ (m : List ℕ). walk_at encoding treat last Unknown 0 (bytes ++ m)) none
     ∙ (ap (walk_at encoding treat last Unknown 0) (append-nil bytes)
     ∙ (leaves.goes_on
     ∙ ap (λ (b : List ℕ). items_before items (walk_at encoding treat last Unknown used b)) (sym (append-nil (drop used bytes)) ∙ ap (λ (m : List ℕ). drop used bytes ++ m) (sym none))))
 
--- either way
-pub on-whole : (encoding : Encoding) (treat : Treatment) → LooksAtRange treat → (last : Bool) (bytes more : List ℕ) (used : ℕ) → Leaves encoding treat last bytes used → (last ≡ true → more ≡ []) → walk_at encoding treat true Unknown 0 (bytes ++ more) ≡ items_before (walk_at encoding treat last Unknown 0 bytes).items (walk_at encoding treat true Unknown used (drop used bytes ++ more))
-on-whole encoding treat looks true bytes more used leaves none = on-last encoding treat true bytes more used leaves (none refl)
-on-whole encoding treat looks false bytes more used leaves none = on-while encoding treat looks bytes used leaves true more
+-- Some items of the first bytes in hand, whatever comes behind those.
 
-pub on-so-far : (encoding : Encoding) (treat : Treatment) → LooksAtRange treat → (last : Bool) (bytes : List ℕ) (used : ℕ) → Leaves encoding treat last bytes used → last ≡ false → (more : List ℕ) → walk_at encoding treat false Unknown 0 (bytes ++ more) ≡ items_before (walk_at encoding treat last Unknown 0 bytes).items (walk_at encoding treat false Unknown used (drop used bytes ++ more))
-on-so-far encoding treat looks true bytes used leaves is more = absurd (true≢false is)
-on-so-far encoding treat looks false bytes used leaves is more = on-while encoding treat looks bytes used leaves false more
+-- some items of some bytes were decoded: whatever comes behind the bytes, the decoding goes on behind the items; `last` says that nothing
+-- comes
+pub record Passed (encoding : Encoding) (treat : Treatment) (last : Bool) (bytes : List ℕ) (used : ℕ) (items : List Item) : Type 0 where
+  pub within : used ≤ len bytes
+  pub whole : (more : List ℕ) → (last ≡ true → more ≡ []) → walk_at encoding treat true Unknown 0 (bytes ++ more) ≡ items_before items (walk_at encoding treat true Unknown used (drop used bytes ++ more))
+  pub so_far : last ≡ false → (more : List ℕ) → walk_at encoding treat false Unknown 0 (bytes ++ more) ≡ items_before items (walk_at encoding treat false Unknown used (drop used bytes ++ more))
+
+-- a part of some bytes, and what comes behind it
+pub part-joined : (bytes more : List ℕ) (size : ℕ) → bytes ++ more ≡ take size bytes ++ (drop size bytes ++ more)
+part-joined bytes more size = ap (λ (b : List ℕ). b ++ more) (sym (take-append-drop size bytes)) ∙ append_assoc (take size bytes) (drop size bytes) more
+
+-- what is left of a part, and what stands behind it
+pub part-left : (bytes : List ℕ) (size used : ℕ) → used ≤ len (take size bytes) → drop used bytes ≡ drop used (take size bytes) ++ drop size bytes
+part-left bytes size used within = ap (drop used) (sym (take-append-drop size bytes)) ∙ drop-append-le used (take size bytes) (drop size bytes) within
+
+passed-while : (encoding : Encoding) (treat : Treatment) → LooksAtRange treat → (bytes : List ℕ) (size used : ℕ) (items : List Item) → Leaves encoding treat false (take size bytes) used items → (final : Bool) (more : List ℕ) → walk_at encoding treat final Unknown 0 (bytes ++ more) ≡ items_before items (walk_at encoding treat final Unknown used (drop used bytes ++ more))
+passed-while encoding treat looks bytes size used items leaves final more =
+    let part : List ℕ = take size bytes in
+    let tail : List ℕ = drop size bytes in
+    ap (walk_at encoding treat final Unknown 0) (part-joined bytes more size)
+    ∙ (on-while encoding treat looks part used items leaves final (tail ++ more)
+    ∙ ap (λ (b : List ℕ). items_before items (walk_at encoding treat final Unknown used b)) (sym (append_assoc (drop used part) tail more) ∙ ap (λ (b : List ℕ). b ++ more) (sym (part-left bytes size used leaves.within))))
+
+pub passed : (encoding : Encoding) (treat : Treatment) → LooksAtRange treat → (last : Bool) (bytes : List ℕ) (size used : ℕ) (items : List Item) → (last ≡ true → size ≡ len bytes) → Leaves encoding treat last (take size bytes) used items → Passed encoding treat last bytes used items
+passed encoding treat looks true bytes size used items all leaves =
+    let is : take size bytes ≡ bytes = take_all size bytes (omega (arith, all refl)) in
+    let own : Leaves encoding treat true bytes used items = subst (λ (b : List ℕ). Leaves encoding treat true b used items) is leaves in
+    record {
+      within = own.within;
+      whole = λ more none. on-last encoding treat true bytes more used items own (none refl);
+      so_far = λ more_comes. absurd (true≢false more_comes);
+    }
+passed encoding treat looks false bytes size used items all leaves = record {
+  within = omega (arith, leaves.within, length-take size bytes);
+  whole = λ more none. passed-while encoding treat looks bytes size used items leaves true more;
+  so_far = λ more_comes more. passed-while encoding treat looks bytes size used items leaves false more;
+}
 
 -- A walk without items, at another place.
 

@@ -1,11 +1,11 @@
 -- A text that is known, of which a front was given.
-use Rattle.std.specs.Prelude.{◌≡◌, ◌≤◌, ◌*◌, ℕ, Bool, List, [], ◌++◌, false, length, drop, chars, IsCharBoundary}
+use Rattle.std.specs.Prelude.{◌≡◌, ◌≤◌, ◌<◌, ◌-◌, ◌*◌, ◌^◌, ℕ, Bool, List, [], ◌++◌, true, false, length, drop, chars, IsCharBoundary}
 use Rattle.py_plain.specs.declared.newlines.Newlines.{Newlines}
 use Rattle.py_plain.specs.Items.{Walk, characters_of}
 use Rattle.py_plain.specs.Pieces.{items_before}
-use Rattle.py_plain.specs.NewlineRule.{line_end, read_so_far, read_all, holds_after}
+use Rattle.py_plain.specs.NewlineRule.{line_end, universal, ends_held, read_so_far, read_all, holds_after}
 use Rattle.py_codec.specs.declared.front.FrontDecoded.{FrontDecoded}
-use Rattle.py_codec.specs.Front.{bytes_in, front_stop}
+use Rattle.py_codec.specs.Front.{items_for, bytes_in, front_stop}
 use Rattle.py_held_text.specs.LineSearch.{IsSearched}
 
 -- the rule that it was read by and its lines end by; the characters that aren't given; and whether a CR is held behind them
@@ -22,6 +22,10 @@ pub record IsKnown (newline : Newlines) (bytes : List ℕ) (given count searched
   pub open_line : IsSearched (line_end newline) (chars (drop given bytes)) searched
   pub holds : holds_after newline cr [] ≡ cr
 
+-- the universal rule changes nothing in some characters, of which `plain` says that no CR is among them
+abbrev pub IsPlain : List ℕ → (plain : Bool) → Type 0
+IsPlain cs plain = plain ≡ true → (universal false cs ≡ cs) × (ends_held false cs ≡ false)
+
 -- a text after some characters more, by its rule
 abbrev pub reading : KnownView → List ℕ → KnownView
 reading known cs = record known { characters = known.characters ++ read_so_far known.newline known.cr cs; cr = holds_after known.newline known.cr cs }
@@ -30,11 +34,12 @@ reading known cs = record known { characters = known.characters ++ read_so_far k
 abbrev pub ended : KnownView → KnownView
 ended known = record known { characters = known.characters ++ read_all known.newline known.cr []; cr = false }
 
--- all items of a walk were decoded: an answer says how many bytes and characters they have, at most six characters for each byte, and
--- why there are no more; the decoding goes on behind their bytes
-pub record IsWhole (walk : Walk) (behind : ℕ → Walk) (front : FrontDecoded) : Type 0 where
-  pub used : front.used ≡ bytes_in walk.items
-  pub chars : front.chars ≡ length (characters_of walk.items)
+-- the items of a walk were decoded that have n characters, or all: an answer says how many bytes and characters they have, at most six
+-- characters for each byte and no more than memory has bytes, and why there are no more; the decoding goes on behind their bytes
+pub record IsPart (want : ℕ) (walk : Walk) (behind : ℕ → Walk) (front : FrontDecoded) : Type 0 where
+  pub used : front.used ≡ bytes_in (items_for want walk.items)
+  pub chars : front.chars ≡ length (characters_of (items_for want walk.items))
   pub few : front.chars ≤ 6 * front.used
-  pub stop : front.stop ≡ front_stop 1 walk.ending
-  pub goes_on : walk ≡ items_before walk.items (behind front.used)
+  pub fits : front.chars < 2 ^ 63
+  pub stop : front.stop ≡ front_stop (want - front.chars) walk.ending
+  pub goes_on : walk ≡ items_before (items_for want walk.items) (behind front.used)

@@ -1,36 +1,40 @@
-ghost use Rattle.std.specs.Prelude.{◌≡◌, ◌++◌, ◌<◌, ◌≤◌, true, length, IfOk, IfErr, OnErr};
+ghost use Rattle.std.specs.Prelude.{◌≡◌, ◌++◌, ◌<◌, ◌≤◌, true, chars, length, IfOk, IfErr, OnOk, OnErr};
 ghost use Rattle.py_plain.specs.Handlers.{treatment, reads_texts};
 ghost use Rattle.py_plain.specs.Items.{characters_of};
 ghost use Rattle.py_plain.specs.NewlineRule.{read_so_far, holds_after};
 ghost use Rattle.py_codec.specs.Answers.{text_of};
 ghost use Rattle.py_codec.specs.Decoding.{walk_here};
-ghost use Rattle.py_held_text.specs.Known.{IsWhole};
+ghost use Rattle.py_codec.specs.Front.{items_for};
+ghost use Rattle.py_held_text.specs.Known.{IsPart, IsPlain};
 
+use memchr::memchr;
 use py_codec::{FrontDecoded, IoFault, Steps, front_text};
 use py_plain::Newlines;
 use py_text::{Coder, read_so_far};
-use std::alloc::Global;
+use std::alloc::{AllocError, Global};
 use std::marker::Brand;
 use std::sync::ledger::{Blank, Ledger};
 
-/// The characters of all items that some bytes begin with, with a count of steps of any ledger.
-fn decode_all<L: Ledger>(
+/// The characters that some bytes begin with, up to the first place between two items where as many as are wanted were
+/// given, with a count of steps of any ledger.
+fn decode_front<L: Ledger>(
     blank: Blank,
     alloc: Global,
     coder: Coder,
     bytes: &[u8],
+    want: usize,
     last: bool,
 ) -> Result<(String, FrontDecoded), IoFault>
     requires name { blank.name ≡ L.name }
     requires parts { blank.parts ≡ L.parts }
     requires some { 0 < L.parts }
     requires reads { reads_texts coder.errors ≡ true }
-    ensures whole { IfOk result (λ t.
+    ensures part { IfOk result (λ t.
         let behind = walk_here coder.encoding (treatment coder.errors coder.encoding) last bytes.now in
-        IsWhole (behind 0) behind t.1) }
+        IsPart want (behind 0) behind t.1) }
     ensures text { IfOk result (λ t.
         let walk = walk_here coder.encoding (treatment coder.errors coder.encoding) last bytes.now 0 in
-        text_of t.0 ≡ characters_of walk.items) }
+        text_of t.0 ≡ characters_of (items_for want walk.items)) }
     ensures within { IfOk result (λ t. t.1.used ≤ length bytes.now) }
     ensures memory { IfErr result (λ why. why ≡ IoFault.NoMemory) }
 {
@@ -40,10 +44,55 @@ fn decode_all<L: Ledger>(
         coder.encoding,
         coder.errors,
         bytes,
-        usize::MAX,
+        want,
         last,
         &mut steps,
     )
+}
+
+/// Whether the universal rule changes nothing in a text: no CR stands in it.
+fn is_plain(text: &str) -> bool
+    ensures { IsPlain (chars text.now) result }
+{
+    match memchr(b'\r', text.as_bytes()) {
+        Some(_) => false,
+        None => true,
+    }
+}
+
+/// What a rule gives of a text while more may come, and whether a CR is held then; `held` says that one is held before
+/// the text. A text that the rule doesn't change isn't copied.
+fn read(
+    alloc: Global,
+    newline: Newlines,
+    held: bool,
+    text: String,
+) -> Result<(String, bool), AllocError>
+    ensures gives { IfOk result (λ read. text_of read.0 ≡ read_so_far newline held (text_of text)) }
+    ensures holds { IfOk result (λ read. read.1 ≡ holds_after newline held (text_of text)) }
+{
+    match newline {
+        Newlines::Universal => {
+            if !held && is_plain(&text) {
+                return Ok((text, false));
+            }
+            read_so_far(alloc, newline, held, &text)
+        }
+        Newlines::Passthrough | Newlines::Lf | Newlines::Cr | Newlines::Crlf => Ok((text, false)),
+    }
+}
+
+/// Puts a text behind another.
+fn append(text: &mut String, more: String) -> Result<(), AllocError>
+    ensures appended { OnOk result (text_of text.new ≡ text_of text.old ++ text_of more) }
+    ensures same { OnErr result (text_of text.new ≡ text_of text.old) }
+{
+    if text.is_empty() {
+        *text = more;
+        return Ok(());
+    }
+    text.push_str(&more)?;
+    Ok(())
 }
 
 /// What a decoding came to.
@@ -57,52 +106,40 @@ pub(crate) struct Decoded {
     pub cr: bool,
 }
 
-/// Appends what a rule gives of the characters of all items that some bytes begin with; `cr` says that a CR is held
-/// before them.
+/// Appends what a rule gives of the characters that some bytes begin with, up to the first place between two items where
+/// as many as are wanted were given; `cr` says that a CR is held before them.
 pub(crate) fn decode_by(
     alloc: Global,
     coder: Coder,
     newline: Newlines,
     cr: bool,
     bytes: &[u8],
+    want: usize,
     last: bool,
     text: &mut String,
 ) -> Result<Decoded, IoFault>
     requires reads { reads_texts coder.errors ≡ true }
-    ensures whole { IfOk result (λ decoded.
+    ensures part { IfOk result (λ decoded.
         let behind = walk_here coder.encoding (treatment coder.errors coder.encoding) last bytes.now in
-        IsWhole (behind 0) behind decoded.front) }
+        IsPart want (behind 0) behind decoded.front) }
     ensures appended { IfOk result (λ decoded.
-        let cs = characters_of (walk_here coder.encoding (treatment coder.errors coder.encoding) last bytes.now 0).items in
+        let cs = characters_of (items_for want (walk_here coder.encoding (treatment coder.errors coder.encoding) last bytes.now 0).items) in
         text_of text.new ≡ text_of text.old ++ read_so_far newline cr cs) }
     ensures chars { IfOk result (λ decoded.
-        let cs = characters_of (walk_here coder.encoding (treatment coder.errors coder.encoding) last bytes.now 0).items in
+        let cs = characters_of (items_for want (walk_here coder.encoding (treatment coder.errors coder.encoding) last bytes.now 0).items) in
         decoded.chars ≡ length (read_so_far newline cr cs)) }
     ensures holds { IfOk result (λ decoded.
-        let cs = characters_of (walk_here coder.encoding (treatment coder.errors coder.encoding) last bytes.now 0).items in
+        let cs = characters_of (items_for want (walk_here coder.encoding (treatment coder.errors coder.encoding) last bytes.now 0).items) in
         decoded.cr ≡ holds_after newline cr cs) }
     ensures within { IfOk result (λ decoded. decoded.front.used ≤ length bytes.now) }
     ensures memory { IfErr result (λ why. why ≡ IoFault.NoMemory) }
     ensures same { OnErr result (text_of text.new ≡ text_of text.old) }
 {
-    let (raw, front) = decode_all::<Brand>(Blank::new(1), alloc, coder, bytes, last)?;
-    match newline {
-        Newlines::Universal => {
-            let (read, cr) = read_so_far(alloc, newline, cr, &raw)?;
-            text.push_str(&read)?;
-            Ok(Decoded {
-                front,
-                chars: front.chars + read.len() - raw.len(),
-                cr,
-            })
-        }
-        Newlines::Passthrough | Newlines::Lf | Newlines::Cr | Newlines::Crlf => {
-            text.push_str(&raw)?;
-            Ok(Decoded {
-                front,
-                chars: front.chars,
-                cr: false,
-            })
-        }
-    }
+    let (raw, front) =
+        decode_front::<Brand>(Blank::new(1), alloc, coder, bytes, want, last)?;
+    let size = raw.len();
+    let (read, cr) = read(alloc, newline, cr, raw)?;
+    let chars = front.chars + read.len() - size;
+    append(text, read)?;
+    Ok(Decoded { front, chars, cr })
 }

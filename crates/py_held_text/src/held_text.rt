@@ -4,10 +4,11 @@ ghost use Rattle.py_plain.specs.Units.{Unknown};
 ghost use Rattle.py_plain.specs.Handlers.{reads_texts};
 ghost use Rattle.py_plain.specs.NewlineRule.{read_all};
 ghost use Rattle.py_held_text.specs.Held.{nothing_held, cleared, held_anew};
-ghost use Rattle.py_held_text.specs.Decodes.{DecodeOutcome};
+ghost use Rattle.py_held_text.specs.Decodes.{DecodeOutcome, DecodeLastOutcome, PartOutcome};
 ghost use Rattle.py_held_text.specs.Finding.{IsFrontOf, answer_of, enough, enough_before, GiveOutcome};
 
 use crate::known_text::KnownText;
+use crate::reach::reach;
 use crate::{HeldStop, Wanted};
 use py_blocks::TextFront;
 use py_codec::{FrontStop, IoFault};
@@ -200,15 +201,65 @@ impl HeldText {
         self.bytes.extend_from_slice(part).unwrap();
     }
 
-    /// Decodes the bytes in hand as far as they go, and says why they go no further; `last` says that nothing comes behind
-    /// them. What they give is known then. A refused range stays in hand, and what was known before it stays known.
+    /// How many of the bytes in hand an answer may want; all of them where `whole` says so.
+    fn size_wanted(&self, wanted: Wanted, whole: bool) -> usize
+        ensures within { result ≤ length self.now.bytes }
+        ensures whole { whole ≡ true → result ≡ length self.now.bytes }
+    {
+        if whole {
+            return self.undecoded();
+        }
+        let bytes = behind(&self.bytes, self.decoded);
+        reach(self.coder.encoding, self.known.newline(), wanted, bytes)
+    }
+
+    /// Decodes the bytes in hand as far as an answer may want them, where more may come behind them, and says why it went no
+    /// further. What they give is known then. A refused range stays in hand, and what was known before it stays known. Where no item
+    /// ends among the bytes that the answer may want none is decoded, unless `whole` says that all may be.
     ///
     /// `NoMemory` when out of memory, and all is as before.
-    pub fn decode(&mut self, alloc: Global, last: bool) -> Result<HeldStop, IoFault>
-        ensures { DecodeOutcome last self.old result self.new }
+    pub fn decode(
+        &mut self,
+        alloc: Global,
+        wanted: Wanted,
+        whole: bool,
+    ) -> Result<HeldStop, IoFault>
+        ensures { DecodeOutcome whole self.old result self.new }
+    {
+        let size = self.size_wanted(wanted, whole);
+        let want = self.known.lacks(wanted);
+        self.decode_part(alloc, size, want, false)
+    }
+
+    /// Decodes the bytes in hand, behind which none come, and says why it went no further. What they give is known then. A refused
+    /// range stays in hand, and what was known before it stays known.
+    ///
+    /// `NoMemory` when out of memory, and all is as before.
+    pub fn decode_last(&mut self, alloc: Global) -> Result<HeldStop, IoFault>
+        ensures { DecodeLastOutcome self.old result self.new }
+    {
+        self.decode_part(alloc, self.undecoded(), usize::MAX, true)
+    }
+
+    /// Decodes the first n of the bytes in hand, as far as so many characters are wanted; `last` says that none come behind
+    /// them.
+    fn decode_part(
+        &mut self,
+        alloc: Global,
+        size: usize,
+        want: usize,
+        last: bool,
+    ) -> Result<HeldStop, IoFault>
+        requires within { size ≤ length self.old.bytes }
+        requires whole { last ≡ true → size ≡ length self.old.bytes }
+        requires some { 1 ≤ want }
+        ensures { PartOutcome last size want self.old result self.new }
     {
         let bytes = behind(&self.bytes, self.decoded);
-        let front = self.known.decode(alloc, self.coder, bytes, last)?;
+        let whole = size == bytes.len();
+        let front = self
+            .known
+            .decode(alloc, self.coder, &bytes[..size], want, last)?;
         let end = self.decoded + front.used;
         self.decoded = keep_front(&mut self.bytes, end, self.keeps);
         let from = self.place;
@@ -218,7 +269,14 @@ impl HeldText {
                 start: from + start as u64,
                 end: from + end as u64,
             }),
-            FrontStop::Wanted | FrontStop::Drained => Ok(HeldStop::Drained),
+            FrontStop::Drained => {
+                if whole {
+                    Ok(HeldStop::Drained)
+                } else {
+                    Ok(HeldStop::More)
+                }
+            }
+            FrontStop::Wanted => Ok(HeldStop::More),
         }
     }
 

@@ -4,12 +4,13 @@ ghost use Rattle.py_plain.specs.Handlers.{treatment, reads_texts};
 ghost use Rattle.py_plain.specs.Items.{characters_of};
 ghost use Rattle.py_codec.specs.Answers.{text_of};
 ghost use Rattle.py_codec.specs.Decoding.{walk_here};
+ghost use Rattle.py_codec.specs.Front.{items_for};
 ghost use Rattle.py_held_text.specs.Finding.{IsFrontOf, answer_of, enough, enough_before};
-ghost use Rattle.py_held_text.specs.Known.{KnownView, reading, ended, IsWhole};
+ghost use Rattle.py_held_text.specs.Known.{KnownView, reading, ended, IsPart};
 
 use crate::Wanted;
 use crate::decoding::decode_by;
-use crate::line_search::{ended_line, last_line, limited_line, line_front};
+use crate::line_search::{ended_line, last_line, limited_line, line_front, may_go_on};
 use py_blocks::{TextFront, front_of};
 use py_codec::{FrontDecoded, IoFault};
 use py_plain::Newlines;
@@ -119,21 +120,44 @@ impl KnownText {
         Ok(())
     }
 
-    /// Reads the characters of all items that some bytes begin with.
+    /// How many characters a call may want besides those that are known, one at least. A line that ends with a CR wants one: the next
+    /// character tells whether an LF goes with it.
+    pub fn lacks(&self, wanted: Wanted) -> usize
+        ensures { 1 ≤ result }
+    {
+        if matches!(wanted, Wanted::Line(_)) && self.ends_open() {
+            return 1;
+        }
+        match wanted {
+            Wanted::Characters(Some(size)) | Wanted::Line(Some(size)) => {
+                size.saturating_sub(self.count).max(1)
+            }
+            Wanted::Characters(None) | Wanted::Line(None) => usize::MAX,
+        }
+    }
+
+    /// Whether the next character tells whether a CR that comes last is a line end by itself.
+    fn ends_open(&self) -> bool {
+        self.cr || may_go_on(self.newline, &self.text[self.given..])
+    }
+
+    /// Reads the characters that some bytes begin with, up to the first place between two items where as many as are wanted were
+    /// given.
     pub fn decode(
         &mut self,
         alloc: Global,
         coder: Coder,
         bytes: &[u8],
+        want: usize,
         last: bool,
     ) -> Result<FrontDecoded, IoFault>
         requires reads { reads_texts coder.errors ≡ true }
-        ensures whole { IfOk result (λ front.
+        ensures part { IfOk result (λ front.
             let behind = walk_here coder.encoding (treatment coder.errors coder.encoding) last bytes.now in
-            IsWhole (behind 0) behind front) }
+            IsPart want (behind 0) behind front) }
         ensures reading { OnOk result (
             let walk = walk_here coder.encoding (treatment coder.errors coder.encoding) last bytes.now 0 in
-            self.new ≡ reading self.old (characters_of walk.items)) }
+            self.new ≡ reading self.old (characters_of (items_for want walk.items))) }
         ensures within { IfOk result (λ front. front.used ≤ length bytes.now) }
         ensures memory { IfErr result (λ why. why ≡ IoFault.NoMemory) }
         ensures same { OnErr result (self.new ≡ self.old) }
@@ -145,6 +169,7 @@ impl KnownText {
             self.newline,
             self.cr,
             bytes,
+            want,
             last,
             &mut self.text,
         )?;
@@ -179,7 +204,7 @@ impl KnownText {
             Wanted::Line(Some(limit)) if limit <= self.count => {
                 Some(limited_line(self.newline, text, limit))
             }
-            Wanted::Line(_) => line_front(self.newline, text, &mut self.searched),
+            Wanted::Line(_) => line_front(self.newline, text, self.count, &mut self.searched),
         }
     }
 

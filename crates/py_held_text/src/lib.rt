@@ -9,6 +9,7 @@ mod held_stop;
 mod held_text;
 mod known_text;
 mod line_search;
+mod reach;
 mod wanted;
 
 pub use held_stop::HeldStop;

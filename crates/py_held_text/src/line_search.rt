@@ -11,7 +11,7 @@ use py_plain::{Newlines, ends_with_cr};
 
 /// Whether an LF behind a text would be one line end with its last character: by the rule that knows CR LF, CR and LF, a
 /// CR.
-fn may_go_on(newline: Newlines, text: &str) -> bool
+pub(crate) fn may_go_on(newline: Newlines, text: &str) -> bool
     ensures { result ≡ may_go_on newline (chars text.now) }
 {
     match newline {
@@ -55,14 +55,27 @@ fn last_line_in(newline: Newlines, text: &str, searched: usize) -> usize
     }
 }
 
-/// The first line, where it is one whatever comes behind the text. Else it notes how far the text was searched.
-pub(crate) fn line_front(newline: Newlines, text: &str, searched: &mut usize) -> Option<TextFront>
-    requires { IsSearched (line_end newline) (chars text.now) searched.old }
+/// The first line of a text that has `count` characters, where it is one whatever comes behind the text. Else it notes how
+/// far the text was searched.
+pub(crate) fn line_front(
+    newline: Newlines,
+    text: &str,
+    count: usize,
+    searched: &mut usize,
+) -> Option<TextFront>
+    requires searched { IsSearched (line_end newline) (chars text.now) searched.old }
+    requires count { count ≡ length (chars text.now) }
     ensures count { option_map (λ front. front.chars) result ≡ line_in_hand (line_end newline) None (chars text.now) }
     ensures front { IfSome result (IsFrontOf (chars text.now)) }
     ensures searched { IsSearched (line_end newline) (chars text.now) searched.new }
 {
     let end = line_in(newline, text, searched)?;
+    if end == text.len() {
+        return Some(TextFront {
+            chars: count,
+            bytes: end,
+        });
+    }
     Some(front_of(&text[..end], end))
 }
 

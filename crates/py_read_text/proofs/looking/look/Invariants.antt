@@ -1,0 +1,11 @@
+use Rattle.std.proofs.Common.{◌+◌, ◌*◌, false, length, if◌then◌else◌}
+use Rattle.py_read_text.specs.Reading.{Coming, Follows}
+use Rattle.py_read_text.proofs.looking.look.Given as goal
+
+-- what is in hand was looked at
+abbrev pub invariant-loop-front : goal.invariant-loop-front
+invariant-loop-front l = Follows (Coming false) l.fn.held l.held
+
+-- bytes are decoded, or all of them may be the next time
+abbrev pub decreases-loop-front : goal.decreases-loop-front
+decreases-loop-front l = 2 * length l.held.bytes + (if l.whole then 0 else 1)
