@@ -2,18 +2,18 @@
 use Rattle.std.specs.Prelude.{◌≡◌, ℕ, ◌+◌, ◌-◌, ◌<◌, ◌≤◌, ◌⊎◌, max, false, List, [], ◌∷◌, ◌++◌, length, take, Some, None}
 use Rattle.py_flat.specs.Lines.{lf, first_line}
 use Rattle.py_plain.specs.declared.newlines.Newlines.{Newlines}
-use Rattle.py_plain.specs.Items.{characters_of, refusal_of}
-use Rattle.py_plain.specs.NewlineRule.{line_end, read_so_far}
+use Rattle.py_plain.specs.Items.{refusal_of}
+use Rattle.py_plain.specs.NewlineRule.{line_end}
 use Rattle.py_plain_text.specs.TextFile.{TextFile}
 use Rattle.py_plain_text.specs.TextCalls.{TextFileCall, Read, ReadLine}
 use Rattle.py_plain_text.specs.Rest.{text_rest}
 use Rattle.py_stream.specs.Buffer.{WhereShown}
 use Rattle.py_read_text.specs.TextState.{TextState, file_of}
-use Rattle.py_read_text.specs.Waiting.{taken_walk}
+use Rattle.py_read_text.specs.Waiting.{taken_walk, sure_at}
 
--- how many characters the bytes up to a place surely give, behind those that were taken
+-- how many characters the front and the bytes up to a place surely give, behind those that were taken
 abbrev pub known_at : TextFile → ℕ → ℕ
-known_at file to = length (read_so_far file.settings.newline false (characters_of (taken_walk file to).items)) - file.place.taken
+known_at file to = length (sure_at file to) - file.place.taken
 
 -- the first n of what is left aren't the whole answer of a reading, whatever comes behind them: so many are less than it asks for; or none
 -- of them ends the line, also where an LF comes next
