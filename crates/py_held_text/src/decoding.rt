@@ -135,8 +135,7 @@ pub(crate) fn decode_by(
     ensures memory { IfErr result (λ why. why ≡ IoFault.NoMemory) }
     ensures same { OnErr result (text_of text.new ≡ text_of text.old) }
 {
-    let (raw, front) =
-        decode_front::<Brand>(Blank::new(1), alloc, coder, bytes, want, last)?;
+    let (raw, front) = decode_front::<Brand>(Blank::new(1), alloc, coder, bytes, want, last)?;
     let size = raw.len();
     let (read, cr) = read(alloc, newline, cr, raw)?;
     let chars = front.chars + read.len() - size;

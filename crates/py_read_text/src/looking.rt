@@ -56,12 +56,7 @@ fn drained(held: &mut HeldText, wanted: Wanted) -> Option<Gathered>
 }
 
 /// What the known characters come to where a refused range comes behind.
-fn refused(
-    held: &mut HeldText,
-    wanted: Wanted,
-    start: u64,
-    end: u64,
-) -> Result<Gathered, IoFault>
+fn refused(held: &mut HeldText, wanted: Wanted, start: u64, end: u64) -> Result<Gathered, IoFault>
     requires { RefusesNext false held.old start end }
     ensures follows { Follows (Coming false) held.old held.new }
     ensures outcome { StopOutcome false wanted result held.new }

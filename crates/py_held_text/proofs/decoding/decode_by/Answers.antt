@@ -1,4 +1,4 @@
-use Rattle.std.proofs.Common.{List, ℕ, ◌≡◌, length, ap, ◌∙◌, arith}
+use Rattle.std.proofs.Common.{List, ℕ, ◌≡◌, ap, ◌∙◌, arith}
 use Rattle.py_plain.specs.Handlers.{treatment}
 use Rattle.py_plain.specs.Items.{characters_of}
 use Rattle.py_plain.specs.NewlineRule.{read_so_far}

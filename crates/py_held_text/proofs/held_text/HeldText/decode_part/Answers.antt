@@ -3,13 +3,12 @@ use Rattle.std.proofs.lemmas.List.{length-drop, length-take, drop-drop}
 use Rattle.py_flat.specs.declared.fault.IoFault.{IoFault}
 use Rattle.py_plain.specs.Handlers.{treatment}
 use Rattle.py_plain.specs.Units.{Unknown}
-use Rattle.py_codec.specs.Decoding.{walk_here}
 use Rattle.py_held_text.specs.declared.held_stop.HeldStop.{HeldStop}
 use Rattle.py_held_text.specs.declared.held_stop.HeldStop.TheVariants as stop
 use Rattle.py_held_text.specs.Held.{HeldView, kept_of}
 use Rattle.py_held_text.specs.Decodes.{PartOutcome}
 use Rattle.py_held_text.proofs.Decoded.{part-all, lacks-drained, lacks-refused, lacks-none}
-use Rattle.py_held_text.proofs.Holding.{range-in, stop-range, held-by, kept-whole, decodes-by, drained-by, refuses-by, whole-walk, all-of, PartDecoded}
+use Rattle.py_held_text.proofs.Holding.{range-in, stop-range, held-by, kept-whole, decodes-by, drained-by, refuses-by, whole-walk, all-of}
 use Rattle.py_held_text.proofs.held_text.HeldText.decode_part.Goals.{in-Refused, in-Drained+then-whole, in-Drained+else-whole, in-Wanted}
 use Rattle.py_held_text.proofs.held_text.HeldText.decode_part.Goals as goal
 
@@ -71,15 +70,18 @@ returns c =
           (shown (Ok stop.Drained) (
             moves,
             (let all = all-of coder c.args.last c.args.want bytes c.args.size decoded is part in
-            drained-by coder after kept_now bytes rest place more c.args.want c.args.last decoded all (part-all c.args.want _ _ decoded all (lacks-drained _ _ (sym part.stop ∙ w.in-Drained.is))) (omega (arith, within, length-take c.args.size bytes)) rest_is w.in-Drained.is),
+                drained-by coder after kept_now bytes rest place more c.args.want c.args.last decoded all (part-all c.args.want _ _ decoded all (lacks-drained _ _ (sym part.stop ∙ w.in-Drained.is))) (omega (arith, within, length-take c.args.size bytes)) rest_is w.in-Drained.is),
           ))
       | in-Drained+else-whole w ↦ subst (λ (result : Result HeldStop IoFault). PartOutcome c.args.last c.args.size c.args.want c.args.self.now result new) (sym w.result-is)
           (shown (Ok stop.More) (moves, λ all. absurd (w.if-whole.false all)))
       | in-Wanted w ↦ subst (λ (result : Result HeldStop IoFault). PartOutcome c.args.last c.args.size c.args.want c.args.self.now result new) (sym w.result-is)
-          (shown (Ok stop.More) (moves, λ all.
-            let none = lacks-none _ _ (sym part.stop ∙ w.in-Wanted.is) in
-            record {
-              some = omega (arith, none, c.requires.some, part.few, within, length-take c.args.size bytes, ap length rest_is, length-drop decoded.used bytes);
-              fits = omega (arith, none, part.fits);
-            }))
+          (shown (Ok stop.More) (
+            moves,
+            λ all.
+                let none = lacks-none _ _ (sym part.stop ∙ w.in-Wanted.is) in
+                record {
+                  some = omega (arith, none, c.requires.some, part.few, within, length-take c.args.size bytes, ap length rest_is, length-drop decoded.used bytes);
+                  fits = omega (arith, none, part.fits);
+                },
+          ))
     ]
