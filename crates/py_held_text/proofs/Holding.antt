@@ -27,7 +27,6 @@ use Rattle.py_text.proofs.Joining.{read-both}
 use Rattle.py_held_text.specs.Held.{HeldView, kept_of}
 use Rattle.py_flat.specs.declared.fault.IoFault.{IoFault}
 use Rattle.py_held_text.specs.declared.held_stop.HeldStop.{HeldStop}
-use Rattle.py_held_text.specs.declared.held_stop.HeldStop.TheVariants as stop
 use Rattle.py_held_text.specs.Decodes.{Decodes, IsDrained, RefusesNext, PartOutcome, DecodeOutcome}
 use Rattle.py_held_text.specs.Known.{KnownView, reading, IsPart}
 use Rattle.py_held_text.proofs.Decoded.{IsAll}
@@ -118,10 +117,9 @@ abbrev pub whole-by : Option (List ℕ) → List ℕ → Option (List ℕ)
 whole-by kept bytes = option_map (λ front. front ++ bytes) kept
 
 -- where decoded bytes are kept, all are what they were
-pub kept-whole : (keeps : Bool) (from end count : ℕ) (items new bytes : List ℕ) → (keeps ≡ true → (count ≡ end) × (new ≡ items)) → bytes ≡ drop from items → whole-by (kept_of keeps count new) (drop count new) ≡ whole-by (kept_of keeps from items) bytes
-kept-whole true from end count items new bytes same is =
-    ap Some (take-append-drop count new ∙ ((same refl).1 ∙ (sym (take-append-drop from items) ∙ ap (λ (behind : List ℕ). take from items ++ behind) (sym is))))
-kept-whole false from end count items new bytes same is = refl
+pub kept-whole : (keeps : Bool) (from end : ℕ) (items : List ℕ) → whole-by (kept_of keeps end items) (drop end items) ≡ whole-by (kept_of keeps from items) (drop from items)
+kept-whole true from end items = ap Some (take-append-drop end items ∙ sym (take-append-drop from items))
+kept-whole false from end items = refl
 
 -- the decoding of some bytes alone
 abbrev pub whole-walk : Coder → Bool → List ℕ → Walk
@@ -177,11 +175,10 @@ pub all-of : (coder : Coder) (last : Bool) (want : ℕ) (bytes : List ℕ) (size
 all-of coder last want bytes size decoded is part = subst (λ (b : List ℕ). PartDecoded coder last want b decoded) (take_all size bytes (omega (arith, is))) part
 
 -- a decoding of a part, where more may come
-pub part-decodes : (whole : Bool) (size want : ℕ) (old new : HeldView) (result : Result HeldStop IoFault) → (whole ≡ true → size ≡ len old.bytes) → PartOutcome false size want old result new → DecodeOutcome whole old result new
-part-decodes whole size want old new (Ok stop.More) all outcome = (outcome.0, λ is. (outcome.1 (all is)).some)
-part-decodes whole size want old new (Ok stop.Drained) all outcome = outcome
-part-decodes whole size want old new (Ok (stop.Refused start end)) all outcome = outcome
-part-decodes whole size want old new (Err why) all outcome = outcome
+pub part-decodes : (all : Bool) (size want : ℕ) (old new : HeldView) (result : Result (Option HeldStop) IoFault) → (all ≡ true → size ≡ len old.bytes) → PartOutcome false size want old result new → DecodeOutcome all old result new
+part-decodes all size want old new (Ok None) is outcome = (outcome.0, λ every. (outcome.1 (is every)).some)
+part-decodes all size want old new (Ok (Some stop)) is outcome = outcome
+part-decodes all size want old new (Err why) is outcome = outcome
 
 -- Nothing is left that is an item.
 

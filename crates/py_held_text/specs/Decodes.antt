@@ -1,10 +1,10 @@
 -- What a decoding of the bytes in hand changes, and why it goes no further.
-use Rattle.std.specs.Prelude.{◌≡◌, ℕ, ◌+◌, ◌*◌, ◌^◌, ◌<◌, ◌≤◌, Bool, true, false, List, [], ◌++◌, length, drop, None, Result, Ok, Err, if◌then◌else◌}
+use Rattle.std.specs.Prelude.{◌≡◌, ℕ, ◌+◌, ◌*◌, ◌^◌, ◌<◌, ◌≤◌, Bool, true, false, List, [], ◌++◌, length, drop, Option, Some, None, Result, Ok, Err, if◌then◌else◌}
 use Rattle.py_flat.specs.declared.fault.IoFault.{IoFault}
 use Rattle.py_flat.specs.declared.fault.IoFault.TheVariants.{NoMemory}
 use Rattle.py_plain.specs.Items.{AtRange, ends, refusal_of}
 use Rattle.py_held_text.specs.declared.held_stop.HeldStop.{HeldStop}
-use Rattle.py_held_text.specs.declared.held_stop.HeldStop.TheVariants.{More, Drained, Refused}
+use Rattle.py_held_text.specs.declared.held_stop.HeldStop.TheVariants.{Drained, Refused}
 use Rattle.py_held_text.specs.Held.{HeldView, ahead, whole_of, left_with, left_so_far}
 
 -- how bytes are read stays
@@ -43,27 +43,24 @@ pub record RefusesNext (last : Bool) (held : HeldView) (start end : ℕ) : Type 
   pub whole : (more : List ℕ) → (last ≡ true → more ≡ []) → ahead held true more ≡ ends held.order (AtRange start end)
   pub so_far : last ≡ false → (more : List ℕ) → ahead held false more ≡ ends held.order (AtRange start end)
 
--- why a decoding of the bytes in hand, behind which more may come, went no further: those that were wanted were decoded, of all of them
--- some; or those left give no more
-abbrev pub StoppedAt : (whole : Bool) → HeldView → HeldStop → HeldView → Type 0
-StoppedAt whole old More new = whole ≡ true → length new.bytes < length old.bytes
-StoppedAt whole old Drained new = IsDrained false new
-StoppedAt whole old (Refused start end) new = RefusesNext false new start end
+-- why the bytes in hand give no more
+abbrev pub StoppedAt : (last : Bool) → HeldView → HeldStop → Type 0
+StoppedAt last held Drained = IsDrained last held
+StoppedAt last held (Refused start end) = RefusesNext last held start end
 
--- the bytes in hand were decoded as far as an answer wants them, where more may come; running out of memory leaves all as it was
-abbrev pub DecodeOutcome : (whole : Bool) → HeldView → Result HeldStop IoFault → HeldView → Type 0
-DecodeOutcome whole old (Ok stop) new = Decodes false old new × StoppedAt whole old stop new
-DecodeOutcome whole old (Err why) new = (why ≡ NoMemory) × (new ≡ old)
+-- a decoding, behind which more may come, where others in hand may give more: of all of them some were used; or why there are none
+abbrev pub MayGoOn : (all : Bool) → HeldView → Option HeldStop → HeldView → Type 0
+MayGoOn all old None new = all ≡ true → length new.bytes < length old.bytes
+MayGoOn all old (Some stop) new = StoppedAt false new stop
 
--- why the last bytes give no more
-abbrev pub EndedAt : HeldView → HeldStop → Type 0
-EndedAt held More = ⊥
-EndedAt held Drained = IsDrained true held
-EndedAt held (Refused start end) = RefusesNext true held start end
+-- bytes in hand were decoded, behind which more may come; running out of memory leaves all as it was
+abbrev pub DecodeOutcome : (all : Bool) → HeldView → Result (Option HeldStop) IoFault → HeldView → Type 0
+DecodeOutcome all old (Ok stop) new = Decodes false old new × MayGoOn all old stop new
+DecodeOutcome all old (Err why) new = (why ≡ NoMemory) × (new ≡ old)
 
 -- the bytes in hand were decoded, behind which none come; running out of memory leaves all as it was
 abbrev pub DecodeLastOutcome : HeldView → Result HeldStop IoFault → HeldView → Type 0
-DecodeLastOutcome old (Ok stop) new = Decodes true old new × EndedAt new stop
+DecodeLastOutcome old (Ok stop) new = Decodes true old new × StoppedAt true new stop
 DecodeLastOutcome old (Err why) new = (why ≡ NoMemory) × (new ≡ old)
 
 -- as many characters came as were wanted, no more than memory holds, and so some bytes were used
@@ -71,14 +68,12 @@ pub record GaveWanted (want : ℕ) (old new : HeldView) : Type 0 where
   pub some : length new.bytes < length old.bytes
   pub fits : want < 2 ^ 63
 
--- why a decoding of a part of the bytes in hand, the first so many, went no further: it gave as many characters as are wanted, or it was
--- decoded and isn't all; or those left give no more
-abbrev pub PartStop : (last : Bool) → (size want : ℕ) → HeldView → HeldStop → HeldView → Type 0
-PartStop last size want old More new = size ≡ length old.bytes → GaveWanted want old new
-PartStop last size want old Drained new = IsDrained last new
-PartStop last size want old (Refused start end) new = RefusesNext last new start end
+-- where a decoding of the first n bytes in hand may go on and these are all of them, it gave as many characters as are wanted
+abbrev pub PartStop : (last : Bool) → (size want : ℕ) → HeldView → Option HeldStop → HeldView → Type 0
+PartStop last size want old None new = size ≡ length old.bytes → GaveWanted want old new
+PartStop last size want old (Some stop) new = StoppedAt last new stop
 
--- a part of the bytes in hand was decoded; running out of memory leaves all as it was
-abbrev pub PartOutcome : (last : Bool) → (size want : ℕ) → HeldView → Result HeldStop IoFault → HeldView → Type 0
+-- the first n bytes in hand were decoded; running out of memory leaves all as it was
+abbrev pub PartOutcome : (last : Bool) → (size want : ℕ) → HeldView → Result (Option HeldStop) IoFault → HeldView → Type 0
 PartOutcome last size want old (Ok stop) new = Decodes last old new × PartStop last size want old stop new
 PartOutcome last size want old (Err why) new = (why ≡ NoMemory) × (new ≡ old)

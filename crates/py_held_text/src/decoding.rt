@@ -17,7 +17,7 @@ use std::sync::ledger::{Blank, Ledger};
 
 /// The characters that some bytes begin with, up to the first place between two items where as many as are wanted were
 /// given, with a count of steps of any ledger.
-fn decode_front<L: Ledger>(
+fn counted_front<L: Ledger>(
     blank: Blank,
     alloc: Global,
     coder: Coder,
@@ -60,23 +60,23 @@ fn is_plain(text: &str) -> bool
     }
 }
 
-/// What a rule gives of a text while more may come, and whether a CR is held then; `held` says that one is held before
-/// the text. A text that the rule doesn't change isn't copied.
-fn read(
+/// What a rule gives of a text while more may come, and whether a CR is held then; `cr` says that one is held before the
+/// text. A text that the rule doesn't change isn't copied.
+fn by_rule(
     alloc: Global,
     newline: Newlines,
-    held: bool,
+    cr: bool,
     text: String,
 ) -> Result<(String, bool), AllocError>
-    ensures gives { IfOk result (λ read. text_of read.0 ≡ read_so_far newline held (text_of text)) }
-    ensures holds { IfOk result (λ read. read.1 ≡ holds_after newline held (text_of text)) }
+    ensures gives { IfOk result (λ read. text_of read.0 ≡ read_so_far newline cr (text_of text)) }
+    ensures holds { IfOk result (λ read. read.1 ≡ holds_after newline cr (text_of text)) }
 {
     match newline {
         Newlines::Universal => {
-            if !held && is_plain(&text) {
+            if !cr && is_plain(&text) {
                 return Ok((text, false));
             }
-            read_so_far(alloc, newline, held, &text)
+            read_so_far(alloc, newline, cr, &text)
         }
         Newlines::Passthrough | Newlines::Lf | Newlines::Cr | Newlines::Crlf => Ok((text, false)),
     }
@@ -135,9 +135,9 @@ pub(crate) fn decode_by(
     ensures memory { IfErr result (λ why. why ≡ IoFault.NoMemory) }
     ensures same { OnErr result (text_of text.new ≡ text_of text.old) }
 {
-    let (raw, front) = decode_front::<Brand>(Blank::new(1), alloc, coder, bytes, want, last)?;
+    let (raw, front) = counted_front::<Brand>(Blank::new(1), alloc, coder, bytes, want, last)?;
     let size = raw.len();
-    let (read, cr) = read(alloc, newline, cr, raw)?;
+    let (read, cr) = by_rule(alloc, newline, cr, raw)?;
     let chars = front.chars + read.len() - size;
     append(text, read)?;
     Ok(Decoded { front, chars, cr })

@@ -94,22 +94,6 @@ fn behind(bytes: &[u8], count: usize) -> &[u8]
     &bytes[count..]
 }
 
-/// Some bytes of which the first are decoded: those are kept, or removed. Says how many there are of them then.
-fn keep_front(bytes: &mut Vec<u8>, decoded: usize, keeps: bool) -> usize
-    requires { decoded ≤ vec_len bytes.old }
-    ensures rest { drop result bytes.new.items ≡ drop decoded bytes.old.items }
-    ensures kept { keeps ≡ true → (result ≡ decoded) × (bytes.new.items ≡ bytes.old.items) }
-    ensures fewer { result ≤ decoded }
-    ensures len { vec_len bytes.new + decoded ≡ vec_len bytes.old + result }
-    ensures capacity { vec_capacity bytes.new ≡ vec_capacity bytes.old }
-{
-    if keeps {
-        return decoded;
-    }
-    drop_front(bytes, decoded);
-    0
-}
-
 /// How many bytes of room may always be kept.
 const KEPT: usize = 65536;
 
@@ -188,6 +172,10 @@ impl HeldText {
         ensures same { OnErr result (self.new ≡ self.old) }
     {
         self.bytes.reserve(size)?;
+        if !self.keeps {
+            drop_front(&mut self.bytes, self.decoded);
+            self.decoded = 0;
+        }
         Ok(())
     }
 
@@ -201,82 +189,91 @@ impl HeldText {
         self.bytes.extend_from_slice(part).unwrap();
     }
 
-    /// How many of the bytes in hand an answer may want; all of them where `whole` says so.
-    fn size_wanted(&self, wanted: Wanted, whole: bool) -> usize
+    /// How many of the bytes in hand an answer may want that wants so many characters; all of them where `all` says so.
+    fn size_wanted(&self, wanted: Wanted, want: usize, all: bool) -> usize
         ensures within { result ≤ length self.now.bytes }
-        ensures whole { whole ≡ true → result ≡ length self.now.bytes }
+        ensures all { all ≡ true → result ≡ length self.now.bytes }
     {
-        if whole {
+        if all {
             return self.undecoded();
         }
         let bytes = behind(&self.bytes, self.decoded);
-        reach(self.coder.encoding, self.known.newline(), wanted, bytes)
+        reach(
+            self.coder.encoding,
+            self.known.newline(),
+            wanted,
+            want,
+            bytes,
+        )
     }
 
-    /// Decodes the bytes in hand as far as an answer may want them, where more may come behind them, and says why it went no
-    /// further. What they give is known then. A refused range stays in hand, and what was known before it stays known. Where no item
-    /// ends among the bytes that the answer may want none is decoded, unless `whole` says that all may be.
+    /// Decodes the bytes in hand as far as an answer may want them, where more may come behind them; what they give is known then.
+    /// `None` where others in hand may give more, else why they don't. A refused range stays in hand, and what was known before it
+    /// stays known. Where `all` says so, no byte is held to be behind the answer, and a decoding that may go on used some.
     ///
     /// `NoMemory` when out of memory, and all is as before.
     pub fn decode(
         &mut self,
         alloc: Global,
         wanted: Wanted,
-        whole: bool,
-    ) -> Result<HeldStop, IoFault>
-        ensures { DecodeOutcome whole self.old result self.new }
+        all: bool,
+    ) -> Result<Option<HeldStop>, IoFault>
+        ensures { DecodeOutcome all self.old result self.new }
     {
-        let size = self.size_wanted(wanted, whole);
         let want = self.known.lacks(wanted);
+        let size = self.size_wanted(wanted, want, all);
         self.decode_part(alloc, size, want, false)
     }
 
-    /// Decodes the bytes in hand, behind which none come, and says why it went no further. What they give is known then. A refused
+    /// Decodes the bytes in hand, behind which none come, and says why they give no more. What they give is known then. A refused
     /// range stays in hand, and what was known before it stays known.
     ///
     /// `NoMemory` when out of memory, and all is as before.
     pub fn decode_last(&mut self, alloc: Global) -> Result<HeldStop, IoFault>
         ensures { DecodeLastOutcome self.old result self.new }
     {
-        self.decode_part(alloc, self.undecoded(), usize::MAX, true)
+        match self.decode_part(alloc, self.undecoded(), usize::MAX, true)? {
+            Some(stop) => Ok(stop),
+            // No memory holds as many characters as are wanted.
+            None => Ok(HeldStop::Drained),
+        }
     }
 
     /// Decodes the first n of the bytes in hand, as far as so many characters are wanted; `last` says that none come behind
-    /// them.
+    /// them. `None` where there are as many, or where others stand behind those bytes; else why there are no more.
     fn decode_part(
         &mut self,
         alloc: Global,
         size: usize,
         want: usize,
         last: bool,
-    ) -> Result<HeldStop, IoFault>
+    ) -> Result<Option<HeldStop>, IoFault>
         requires within { size ≤ length self.old.bytes }
-        requires whole { last ≡ true → size ≡ length self.old.bytes }
+        requires all { last ≡ true → size ≡ length self.old.bytes }
         requires some { 1 ≤ want }
         ensures { PartOutcome last size want self.old result self.new }
     {
         let bytes = behind(&self.bytes, self.decoded);
-        let whole = size == bytes.len();
+        let is_all = size == bytes.len();
         let front = self
             .known
             .decode(alloc, self.coder, &bytes[..size], want, last)?;
-        let end = self.decoded + front.used;
-        self.decoded = keep_front(&mut self.bytes, end, self.keeps);
         let from = self.place;
+        self.decoded += front.used;
         self.place += front.used as u64;
         match front.stop {
-            FrontStop::Refused { start, end } => Ok(HeldStop::Refused {
+            FrontStop::Refused { start, end } => Ok(Some(HeldStop::Refused {
                 start: from + start as u64,
                 end: from + end as u64,
-            }),
+            })),
             FrontStop::Drained => {
-                if whole {
-                    Ok(HeldStop::Drained)
+                if is_all {
+                    Ok(Some(HeldStop::Drained))
                 } else {
-                    Ok(HeldStop::More)
+                    Ok(None)
                 }
             }
-            FrontStop::Wanted => Ok(HeldStop::More),
+            FrontStop::Wanted => Ok(None),
         }
     }
 
@@ -340,7 +337,8 @@ impl HeldText {
     {
         if self.keeps {
             self.keeps = false;
-            self.decoded = keep_front(&mut self.bytes, self.decoded, false);
+            drop_front(&mut self.bytes, self.decoded);
+            self.decoded = 0;
             trim(&mut self.bytes);
         }
     }

@@ -15,7 +15,8 @@ bytes_between bytes from to = take (to - from) (left_at bytes from)
 abbrev pub taken_walk : TextFile → ℕ → Walk
 taken_walk file to = walk_from file.settings.encoding (treatment file.settings.handler file.settings.encoding) false file.place.order file.place.at 0 (bytes_between file.bytes file.place.at to)
 
--- what is surely left of a text whose bytes are known up to a place: what is left of the front, and what those bytes give behind it
+-- what a text surely gives from its place on, those that were taken among it, whose bytes are known up to a place: what is left of the front, and what
+-- those bytes give behind it
 abbrev pub sure_at : TextFile → ℕ → List ℕ
 sure_at file to = front_characters file.settings file.place.order file.bytes file.place.front ++ read_so_far file.settings.newline false (characters_of (taken_walk file to).items)
 

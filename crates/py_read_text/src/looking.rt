@@ -1,6 +1,6 @@
 //! How far what a text has in hand reaches.
 ghost use Rattle.py_read_text.specs.Reading.{Coming, Follows, IsTold, LookOutcome, StopOutcome, IsReady};
-ghost use Rattle.std.specs.Prelude.{◌≡◌, true, false, Ok, IfOk};
+ghost use Rattle.std.specs.Prelude.{true, false, IfOk};
 ghost use Rattle.py_held_text.specs.Decodes.{IsDrained, RefusesNext};
 
 use py_flat::IoFault;
@@ -43,31 +43,6 @@ fn stopped(
     }
 }
 
-/// What the known characters come to where no item stands in hand, whatever comes behind; `None` where more has to come.
-fn drained(held: &mut HeldText, wanted: Wanted) -> Option<Gathered>
-    requires { IsDrained false held.old }
-    ensures same { held.new ≡ held.old }
-    ensures outcome { LookOutcome held.old wanted (Ok result) held.new }
-{
-    match held.find(wanted) {
-        Some(front) => Some(Gathered::Enough(front)),
-        None => None,
-    }
-}
-
-/// What the known characters come to where a refused range comes behind.
-fn refused(held: &mut HeldText, wanted: Wanted, start: u64, end: u64) -> Result<Gathered, IoFault>
-    requires { RefusesNext false held.old start end }
-    ensures follows { Follows (Coming false) held.old held.new }
-    ensures outcome { StopOutcome false wanted result held.new }
-    ensures told { IfOk result IsTold }
-{
-    match held.find(wanted) {
-        Some(front) => Ok(Gathered::Enough(front)),
-        None => stopped(held, wanted, false, start, end),
-    }
-}
-
 /// Looks at what is in hand, whatever comes behind it; `None` where more has to come. It is decoded no further than the answer may want.
 pub(crate) fn look(
     held: &mut HeldText,
@@ -77,17 +52,22 @@ pub(crate) fn look(
     ensures follows { Follows (Coming false) held.old held.new }
     ensures outcome { LookOutcome held.old wanted result held.new }
 {
-    let mut whole = false;
+    if let Some(front) = held.find(wanted) {
+        return Ok(Some(Gathered::Enough(front)));
+    }
+    let mut all = false;
     loop {
+        let before = held.undecoded();
+        let stop = held.decode(alloc, wanted, all)?;
         if let Some(front) = held.find(wanted) {
             return Ok(Some(Gathered::Enough(front)));
         }
-        let all = held.undecoded();
-        match held.decode(alloc, wanted, whole)? {
-            HeldStop::More => whole = held.undecoded() == all,
-            HeldStop::Drained => return Ok(drained(held, wanted)),
-            HeldStop::Refused { start, end } => {
-                let stop = refused(held, wanted, start, end)?;
+        match stop {
+            // Where no item ended in what the answer might want, all is decoded.
+            None => all = held.undecoded() == before,
+            Some(HeldStop::Drained) => return Ok(None),
+            Some(HeldStop::Refused { start, end }) => {
+                let stop = stopped(held, wanted, false, start, end)?;
                 return Ok(Some(stop));
             }
         }
@@ -106,10 +86,10 @@ pub(crate) fn look_at_end(
     ensures ready { IsReady result }
 {
     match held.decode_last(alloc)? {
-        HeldStop::Refused { start, end } => stopped(held, wanted, true, start, end),
-        HeldStop::Drained | HeldStop::More => {
+        HeldStop::Drained => {
             held.release()?;
             Ok(Gathered::Ends)
         }
+        HeldStop::Refused { start, end } => stopped(held, wanted, true, start, end),
     }
 }

@@ -1,4 +1,4 @@
 use Rattle.py_held_text.proofs.decoding.decode_by.Given as goal
 
-abbrev pub ghosts-decode_front : goal.ghosts-decode_front
-ghosts-decode_front a = record { name = a.blank.name; parts = a.blank.parts }
+abbrev pub ghosts-counted_front : goal.ghosts-counted_front
+ghosts-counted_front a = record { name = a.blank.name; parts = a.blank.parts }

@@ -1,7 +1,7 @@
 use Rattle.std.proofs.Common.{◌-◌, ◌≤◌, length}
 use Rattle.py_held_text.proofs.reach.behind_unit.Given as goal
 
--- the units before a place were looked at
+-- no more units were looked at than there are
 abbrev pub invariant-loop-at : goal.invariant-loop-at
 invariant-loop-at l = l.at ≤ length l.bytes
 

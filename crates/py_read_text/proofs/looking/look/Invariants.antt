@@ -3,9 +3,9 @@ use Rattle.py_read_text.specs.Reading.{Coming, Follows}
 use Rattle.py_read_text.proofs.looking.look.Given as goal
 
 -- what is in hand was looked at
-abbrev pub invariant-loop-front : goal.invariant-loop-front
-invariant-loop-front l = Follows (Coming false) l.fn.held l.held
+abbrev pub invariant-loop-stop : goal.invariant-loop-stop
+invariant-loop-stop l = Follows (Coming false) l.fn.held l.held
 
 -- bytes are decoded, or all of them may be the next time
-abbrev pub decreases-loop-front : goal.decreases-loop-front
-decreases-loop-front l = 2 * length l.held.bytes + (if l.whole then 0 else 1)
+abbrev pub decreases-loop-stop : goal.decreases-loop-stop
+decreases-loop-stop l = 2 * length l.held.bytes + (if l.all then 0 else 1)

@@ -1,4 +1,4 @@
-use Rattle.std.proofs.Common.{◌≡◌, ◌+◌, ◌-◌, ◌≤◌, List, ℕ, Result, Ok, true, length, take, drop, vec_len, vec_capacity, sym, ap, subst, ◌∙◌, arith}
+use Rattle.std.proofs.Common.{◌≡◌, ◌+◌, ◌-◌, ◌≤◌, List, ℕ, Result, Ok, Option, Some, None, true, length, take, drop, vec_len, vec_capacity, sym, ap, subst, ◌∙◌, arith}
 use Rattle.std.proofs.lemmas.List.{length-drop, length-take, drop-drop}
 use Rattle.py_flat.specs.declared.fault.IoFault.{IoFault}
 use Rattle.py_plain.specs.Handlers.{treatment}
@@ -8,8 +8,8 @@ use Rattle.py_held_text.specs.declared.held_stop.HeldStop.TheVariants as stop
 use Rattle.py_held_text.specs.Held.{HeldView, kept_of}
 use Rattle.py_held_text.specs.Decodes.{PartOutcome}
 use Rattle.py_held_text.proofs.Decoded.{part-all, lacks-drained, lacks-refused, lacks-none}
-use Rattle.py_held_text.proofs.Holding.{range-in, stop-range, held-by, kept-whole, decodes-by, drained-by, refuses-by, whole-walk, all-of}
-use Rattle.py_held_text.proofs.held_text.HeldText.decode_part.Goals.{in-Refused, in-Drained+then-whole, in-Drained+else-whole, in-Wanted}
+use Rattle.py_held_text.proofs.Holding.{range-in, stop-range, held-by, whole-by, kept-whole, decodes-by, drained-by, refuses-by, whole-walk, all-of}
+use Rattle.py_held_text.proofs.held_text.HeldText.decode_part.Goals.{in-Refused, in-Drained+then-is_all, in-Drained+else-is_all, in-Wanted}
 use Rattle.py_held_text.proofs.held_text.HeldText.decode_part.Goals as goal
 
 pub overflow_add-result : goal.overflow_add-result
@@ -39,45 +39,42 @@ returns c =
     let from = c.self.inside.decoded in
     let bytes = c.behind-bytes.result.now in
     let decoded = c.in_ok-front.front in
-    let count = c.keep_front-self-inside.result in
-    let left = c.keep_front-self-inside.new.bytes.items in
-    let rest = drop count left in
+    let rest = drop (from + decoded.used) items in
     let kept = kept_of c.self.inside.keeps from items in
-    let kept_now = kept_of c.self.inside.keeps count left in
+    let kept_now = kept_of c.self.inside.keeps (from + decoded.used) items in
     let part = c.in_ok-front.ensures.part in
     let within : decoded.used ≤ length (take c.args.size bytes) = c.in_ok-front.ensures.within in
     let room = vec_capacity c.self.inside.bytes - vec_len c.self.inside.bytes in
-    let more = vec_capacity c.keep_front-self-inside.new.bytes - vec_len c.keep_front-self-inside.new.bytes in
     let place = c.self.inside.place in
     let bytes_are : bytes ≡ drop from items = c.behind-bytes.ensures ∙ ap (drop from) c.deref.ensures.value in
-    let rest_is : rest ≡ drop decoded.used bytes = c.keep_front-self-inside.ensures.rest ∙ (sym (drop-drop decoded.used from items) ∙ ap (drop decoded.used) (sym bytes_are)) in
-    let same = kept-whole c.self.inside.keeps from (from + decoded.used) count items left bytes c.keep_front-self-inside.ensures.kept bytes_are in
+    let rest_is : rest ≡ drop decoded.used bytes = sym (drop-drop decoded.used from items) ∙ ap (drop decoded.used) (sym bytes_are) in
+    let same = kept-whole c.self.inside.keeps from (from + decoded.used) items ∙ ap (whole-by kept) (sym bytes_are) in
     let seen : c.args.self.now.bytes ≡ bytes = ap (λ (held : HeldView). held.bytes) (sym c.self.view_is) ∙ sym bytes_are in
-    let whole : c.args.last ≡ true → c.args.size ≡ length bytes = λ last. c.requires.whole last ∙ ap length seen in
-    let new : HeldView = held-by coder after kept_now rest (place + decoded.used) more in
-    let moves = decodes-by coder known after kept kept_now bytes rest c.args.size place room more c.args.want c.args.last decoded c.self.invariant.0 whole part c.in_ok-front.ensures.reading within rest_is same (omega (arith, c.keep_front-self-inside.ensures.capacity, c.keep_front-self-inside.ensures.len, c.keep_front-self-inside.ensures.fewer)) in
-    let shown : (result : Result HeldStop IoFault) → PartOutcome c.args.last c.args.size c.args.want (held-by coder known kept bytes place room) result new → PartOutcome c.args.last c.args.size c.args.want c.args.self.now result new = λ result outcome.
+    let all : c.args.last ≡ true → c.args.size ≡ length bytes = λ last. c.requires.all last ∙ ap length seen in
+    let new : HeldView = held-by coder after kept_now rest (place + decoded.used) room in
+    let moves = decodes-by coder known after kept kept_now bytes rest c.args.size place room room c.args.want c.args.last decoded c.self.invariant.0 all part c.in_ok-front.ensures.reading within rest_is same (omega arith) in
+    let shown : (result : Result (Option HeldStop) IoFault) → PartOutcome c.args.last c.args.size c.args.want (held-by coder known kept bytes place room) result new → PartOutcome c.args.last c.args.size c.args.want c.args.self.now result new = λ result outcome.
     subst (λ (old : HeldView). PartOutcome c.args.last c.args.size c.args.want old result new) (ap (λ (b : List ℕ). held-by coder known kept b place room) bytes_are ∙ c.self.view_is) outcome in
     elim c.match-front.branch [
-      | in-Refused w ↦ subst (λ (result : Result HeldStop IoFault). PartOutcome c.args.last c.args.size c.args.want c.args.self.now result new) (sym w.result-is)
-          (shown (Ok (stop.Refused (place + w.in-Refused.start) (place + w.in-Refused.end))) (
+      | in-Refused w ↦ subst (λ (result : Result (Option HeldStop) IoFault). PartOutcome c.args.last c.args.size c.args.want c.args.self.now result new) (sym w.result-is)
+          (shown (Ok (Some (stop.Refused (place + w.in-Refused.start) (place + w.in-Refused.end)))) (
             moves,
-            refuses-by coder after kept_now bytes rest c.args.size place more c.args.want c.args.last decoded w.in-Refused.start w.in-Refused.end c.self.invariant.0 whole part (part-all c.args.want _ _ decoded part (lacks-refused _ _ w.in-Refused.start w.in-Refused.end (sym part.stop ∙ w.in-Refused.is))) within rest_is w.in-Refused.is,
+            refuses-by coder after kept_now bytes rest c.args.size place room c.args.want c.args.last decoded w.in-Refused.start w.in-Refused.end c.self.invariant.0 all part (part-all c.args.want _ _ decoded part (lacks-refused _ _ w.in-Refused.start w.in-Refused.end (sym part.stop ∙ w.in-Refused.is))) within rest_is w.in-Refused.is,
           ))
-      | in-Drained+then-whole w ↦
-          let is : c.args.size ≡ length bytes = w.if-whole.true in
-          subst (λ (result : Result HeldStop IoFault). PartOutcome c.args.last c.args.size c.args.want c.args.self.now result new) (sym w.result-is)
-          (shown (Ok stop.Drained) (
+      | in-Drained+then-is_all w ↦
+          let is : c.args.size ≡ length bytes = w.if-is_all.true in
+          subst (λ (result : Result (Option HeldStop) IoFault). PartOutcome c.args.last c.args.size c.args.want c.args.self.now result new) (sym w.result-is)
+          (shown (Ok (Some stop.Drained)) (
             moves,
-            (let all = all-of coder c.args.last c.args.want bytes c.args.size decoded is part in
-                drained-by coder after kept_now bytes rest place more c.args.want c.args.last decoded all (part-all c.args.want _ _ decoded all (lacks-drained _ _ (sym part.stop ∙ w.in-Drained.is))) (omega (arith, within, length-take c.args.size bytes)) rest_is w.in-Drained.is),
+            (let whole = all-of coder c.args.last c.args.want bytes c.args.size decoded is part in
+                drained-by coder after kept_now bytes rest place room c.args.want c.args.last decoded whole (part-all c.args.want _ _ decoded whole (lacks-drained _ _ (sym part.stop ∙ w.in-Drained.is))) (omega (arith, within, length-take c.args.size bytes)) rest_is w.in-Drained.is),
           ))
-      | in-Drained+else-whole w ↦ subst (λ (result : Result HeldStop IoFault). PartOutcome c.args.last c.args.size c.args.want c.args.self.now result new) (sym w.result-is)
-          (shown (Ok stop.More) (moves, λ all. absurd (w.if-whole.false all)))
-      | in-Wanted w ↦ subst (λ (result : Result HeldStop IoFault). PartOutcome c.args.last c.args.size c.args.want c.args.self.now result new) (sym w.result-is)
-          (shown (Ok stop.More) (
+      | in-Drained+else-is_all w ↦ subst (λ (result : Result (Option HeldStop) IoFault). PartOutcome c.args.last c.args.size c.args.want c.args.self.now result new) (sym w.result-is)
+          (shown (Ok None) (moves, λ is. absurd (w.if-is_all.false is)))
+      | in-Wanted w ↦ subst (λ (result : Result (Option HeldStop) IoFault). PartOutcome c.args.last c.args.size c.args.want c.args.self.now result new) (sym w.result-is)
+          (shown (Ok None) (
             moves,
-            λ all.
+            λ is.
                 let none = lacks-none _ _ (sym part.stop ∙ w.in-Wanted.is) in
                 record {
                   some = omega (arith, none, c.requires.some, part.few, within, length-take c.args.size bytes, ap length rest_is, length-drop decoded.used bytes);

@@ -3,7 +3,7 @@ use Rattle.py_plain.specs.Units.{Unknown}
 use Rattle.py_plain.specs.Handlers.{treatment}
 use Rattle.py_held_text.proofs.Decoded.{part-if, text-if}
 use Rattle.py_held_text.proofs.Few.{decoded-few, all-bytes}
-use Rattle.py_held_text.proofs.decoding.decode_front.Goals as goal
+use Rattle.py_held_text.proofs.decoding.counted_front.Goals as goal
 
 pub returns-clause-part : goal.returns-clause-part
 returns-clause-part g c =
