@@ -18,6 +18,7 @@ text_call (call.SetChunkSize size) = text.SetChunkSize size
 text_call (call.Reconfigure changes) = text.Reconfigure (changes_of changes)
 text_call call.Flush = text.Flush
 text_call call.Close = text.Close
+text_call call.Detach = text.Detach
 text_call call.ChunkSize = text.ChunkSize
 text_call call.Readable = text.Readable
 text_call call.Writable = text.Writable

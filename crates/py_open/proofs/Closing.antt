@@ -21,13 +21,14 @@ use Rattle.py_mode.specs.declared.plan.PlanKind.{PlanKind}
 use Rattle.py_mode.specs.declared.plan.PlanKind.TheVariants as kind
 use Rattle.py_plain_text.specs.TextCalls as text
 use Rattle.py_read_text.specs.TextState.{TextState}
-use Rattle.py_read_text.specs.Answers as over
+use Rattle.py_text_session.specs.Handing.{AnswersCall}
 use Rattle.py_text_session.specs.Session.{IsOpen}
 use Rattle.py_binary.specs.Binary.{has_reply_room, AnswersBy}
 use Rattle.py_open.specs.Session.{SessionView, TextSession, BinarySession, raw_of, life_of, owed_of, IsInStep, IsOpenBelow, HasOpenRaw, IsKept, IsShut, ClosesRaw, Answers}
 use Rattle.py_open.specs.Opening.{access_of, OpensBy, OpensSession}
 use Rattle.py_open.specs.Run.{IsRun}
 use Rattle.py_open.specs.Laws.{PassesAll}
+use Rattle.py_open.proofs.TextLeft.{call_raw, call_life}
 use Rattle.py_open.proofs.Steps.{left_raw, left_life, step_in_step}
 use Rattle.py_open.proofs.Ending.{step_passes, step_closed, left_closed}
 use Rattle.py_open.proofs.Resting.{run_rests}
@@ -94,8 +95,8 @@ binary_closes before after step live is none =
     let was : ClosedWith before.life before.raw = open_with before.life before.raw (live_open before.life live) is in
     ap (λ (s : Stream). s.raw.closed) same ∙ step.answers.shut refl (ap (λ (s : Stream). s.owed.bytes) (sym same) ∙ none) was ∙ ap is_closed closed
 
-text_closes : (before : TextState) (after : TextState) → over.Answers before text.Close Done after → before.text.life ≡ life.Live → IsOpen before → after.text.buffer.raw.closed ≡ true
-text_closes before after step live is = (step.closes live).1 (is.raw ∙ sym is.buffer)
+text_closes : (before : TextState) (after : TextState) → AnswersCall before text.Close Done after → before.text.life ≡ life.Live → IsOpen before → after.text.buffer.raw.closed ≡ true
+text_closes before after step live is = ap (λ (raw : Raw). raw.closed) (call_raw before text.Close Done after step) ∙ (step.answers.closes live).1 (is.raw ∙ sym is.buffer)
 
 raw_closes : (before : SessionView) (after : SessionView) → Answers before call.Close reply.Done after → life_of before ≡ life.Live → IsOpenBelow before → owed_of after ≡ [] → (raw_of after).closed ≡ true
 raw_closes (TextSession before) (TextSession after) step live is none = text_closes before after step.answers live is
@@ -115,7 +116,7 @@ done_closes before after step is live =
 
 -- a session whose close was done isn't live
 close_ends : (before : SessionView) (after : SessionView) → Answers before call.Close reply.Done after → life_of after ≡ life.Closed
-close_ends (TextSession before) (TextSession after) step = step.answers.moves.life_is
+close_ends (TextSession before) (TextSession after) step = call_life before text.Close Done after step.answers ∙ step.answers.answers.moves.life_is
 close_ends (BinarySession before) (BinarySession after) step = ap (λ (s : Stream). s.life) step.leaves ∙ left_life before.life step.answered.life step.answered refl ∙ step.answers.moves.life_is
 close_ends (TextSession before) (BinarySession after) step = absurd step
 close_ends (BinarySession before) (TextSession after) step = absurd step

@@ -1,5 +1,5 @@
 -- Calls that end something: what is passed on, and what a closed session answers.
-use Rattle.std.proofs.Common.{inl, ◌≡◌, ◌≢◌, pos, suc, zero, ℕ, Bool, true, false, IsTrue, List, [], ◌++◌, Option, Some, None, refl, sym, ap, ◌∙◌}
+use Rattle.std.proofs.Common.{inl, ◌≡◌, ◌≢◌, pos, suc, zero, ℕ, Bool, true, false, IsTrue, List, [], ◌++◌, Option, Some, None, refl, sym, ap, ◌∙◌, subst}
 use Rattle.py_flat.specs.declared.fault.IoFault.{IoFault}
 use Rattle.py_flat.specs.declared.fault.IoFault.TheVariants as fault
 use Rattle.py_flat.specs.declared.life.Life.{Life}
@@ -32,7 +32,8 @@ use Rattle.py_text_session.specs.Session.{OwesNothing}
 use Rattle.py_binary.specs.Binary.{has_reply_room, left_by, left_of, AnswersBy}
 use Rattle.py_open.specs.Session.{OfText, OfBinary, SessionView, TextSession, BinarySession, SaysOrStarves, file_seen, raw_of, life_of, AnswersTextBy, Answers, IsInStep}
 use Rattle.py_open.specs.Laws.{FilePassesAll, TextPassesAll, PassesAll, text_left, HoldsFlat, ShownBy, asks_name, closed_text_by, closed_file_reply, closed_file_by, closed_reply, WhereShown}
-use Rattle.py_open.proofs.Steps.{left_raw, left_none, text_bytes, text_refused_by}
+use Rattle.py_open.proofs.TextLeft.{call_raw, call_none, call_again}
+use Rattle.py_open.proofs.Steps.{left_raw, left_none, text_refused_by}
 
 -- What is passed on.
 
@@ -146,7 +147,7 @@ unsupported_write file written live reads = rw (live, reads) refl
 text_spared : (before : TextState) (call : TextFileCall) (reply : FileReply) (after : TextState) → over.Answers before call reply after → before.text.buffer.can.writable ≡ false → OwesNothing before → before.text.life ≡ life.Live → TextPassesAll before.text.settings call reply → IsTrue before.text.buffer.raw.tells_bytes → after.text.buffer.raw.bytes ≡ text_left (state.file_of before) call
 text_spared before (text.WriteText written) reply after step reads none live all tells =
     absurd (not_refused before.text.settings (text.WriteText written) reply fault.Unsupported all (step.refused fault.Unsupported (unsupported_write (state.file_of before) written live reads)).says)
-text_spared before call reply after step reads none live all tells = text_bytes false before call reply after step reads none tells ∙ sym (owing_none_bytes before none)
+text_spared before call reply after step reads none live all tells = (step.spares reads none.none).bytes tells ∙ sym (owing_none_bytes before none)
 
 text_shown : (writes : Bool) (before : TextState) (call : TextFileCall) (reply : FileReply) (after : TextState) → before.text.buffer.can.writable ≡ writes → over.Answers before call reply after → IsInStep (TextSession before) → before.text.life ≡ life.Live → TextPassesAll before.text.settings call reply → ShownBy writes before.text.buffer.raw (after.text.buffer.raw.bytes ≡ text_left (state.file_of before) call)
 text_shown true before call reply after is step is_in live all = λ tells.
@@ -157,10 +158,12 @@ text_shown false before call reply after is step is_in live all = λ tells. text
 text_passes : (getter : Bool) (before : TextState) (call : Call) (reply : FileReply) (after : TextState) → text.is_getter (text_call call) ≡ getter → AnswersTextBy getter before (text_call call) reply after → IsInStep (TextSession before) → before.text.life ≡ life.Live → TextPassesAll before.text.settings (text_call call) reply → HoldsFlat (TextSession before) call (TextSession after)
 text_passes true before call reply after is step is_in live all = absurd (no_text_question before.text.settings (text_call call) reply is all)
 text_passes false before call reply after is step is_in live all =
-    let on = text_passed_on before (text_call call) reply after step live all in
+    let a : TextState = step.answered in
+    let on = text_passed_on before (text_call call) reply a step.answers live all in
     record {
-      none = ap (λ (front : List ℕ). front ++ after.text.owed) on.none ∙ on.own;
-      holds = text_shown before.text.buffer.can.writable before (text_call call) reply after refl step is_in live all;
+      none = call_none before (text_call call) reply after step (ap (λ (front : List ℕ). front ++ a.text.owed) on.none ∙ on.own);
+      holds = subst (λ (raw : Raw). ShownBy before.text.buffer.can.writable before.text.buffer.raw (raw.bytes ≡ text_left (state.file_of before) (text_call call))) (sym (call_raw before (text_call call) reply after step))
+          (text_shown before.text.buffer.can.writable before (text_call call) reply a refl step.answers is_in live all);
     }
 
 pub step_passes : (before : SessionView) (call : Call) (reply : Reply) (after : SessionView) → Answers before call reply after → IsInStep before → life_of before ≡ life.Live → PassesAll before call (said reply) → HoldsFlat before call after
@@ -193,7 +196,9 @@ closed_text_step before call reply after asks closed step =
 
 text_closed : (getter : Bool) (before : TextState) (call : TextFileCall) (reply : FileReply) (after : TextState) → text.is_getter call ≡ getter → before.text.life ≡ life.Closed → AnswersTextBy getter before call reply after → SaysOrStarves (tells_name call) (closed_text_by getter (state.file_of before) call) reply × (after ≡ record before { short = false })
 text_closed true before call reply after is closed step = (step.says, step.same)
-text_closed false before call reply after is closed step = closed_text_step before call reply after is closed step
+text_closed false before call reply after is closed step =
+    let left = closed_text_step before call reply step.answered is closed step.answers in
+    (left.0, call_again before call reply after step left.1)
 
 -- a closed stream refuses all but another close
 closed_refuses : (stream : Stream) (call : FileCall) → stream.life ≡ life.Closed → is_getter call ≡ false → call ≢ Close → call ≢ OtherGetter → refused_by stream call ≡ Some fault.Closed

@@ -23,9 +23,10 @@ use Rattle.py_calls.specs.Calls.{text_call, file_call, said}
 use Rattle.py_read_text.specs.TextState as state
 use Rattle.py_read_text.specs.TextState.{TextState}
 use Rattle.py_binary.specs.Binary.{has_reply_room, left_by, detached_fault, AnswersBy}
-use Rattle.py_open.specs.Session.{SessionFile, OfText, OfBinary, SessionView, TextSession, BinarySession, FileLeftBy, SaysOrStarves, FileStepBy, SessionStep, file_seen, raw_of, life_of, life_in, AnswersTextBy, Answers}
+use Rattle.py_open.specs.Session.{SessionFile, OfText, OfBinary, SessionView, TextSession, BinarySession, LeftBy, IsDetached, IsDetachedText, SaysOrStarves, FileStepBy, SessionStep, file_seen, raw_of, life_of, life_in, AnswersTextBy, Answers}
 use Rattle.py_open.specs.Run.{Entry, IsRun, IsHistory, calls_of, replies_of, all_said}
 use Rattle.py_open.specs.Laws.{asks_name, SayAll, detached_text_by, detached_file_by, detached_reply, StaysDetached, FileStaysDetached}
+use Rattle.py_open.proofs.TextLeft.{call_again}
 use Rattle.py_open.proofs.Steps.{text_refused_by}
 use Rattle.py_open.proofs.Resting.{detached_refuses}
 
@@ -54,8 +55,8 @@ file_refused before call reply waited faulted file gone asks (raw_faulted rose s
 file_refused before call reply waited faulted file gone asks (out_of_memory says left) = let wrong : true ≡ false = sym left.0 ∙ reaches_none before call gone in absurd (cc)
 
 -- what a call leaves of a detached file is what the stream answered with
-left_gone : (was is : Life) (file : FlatFile) (reply : FileReply) (after : FlatFile) → was ≡ life.Detached → FileLeftBy was is file reply after → after ≡ file
-left_gone was is file reply after gone left = let same : FileLeftBy life.Detached is file reply after = subst (λ (current : Life). FileLeftBy current is file reply after) gone left in same
+left_gone : {File : Type 0} (detached : File → FileReply → File → Type 0) (was is : Life) (file : File) (reply : FileReply) (after : File) → was ≡ life.Detached → LeftBy detached was is file reply after → after ≡ file
+left_gone detached was is file reply after gone left = let same : LeftBy detached life.Detached is file reply after = subst (λ (current : Life). LeftBy detached current is file reply after) gone left in same
 
 -- Texts.
 
@@ -106,12 +107,12 @@ file_stays : (getter : Bool) (before : FlatFile) (call : Call) (reply : FileRepl
 file_stays true before call reply waited faulted after is gone step = (step.says, step.same)
 file_stays false before call reply waited faulted after is gone step =
     let left = file_refused before (file_call call) reply waited faulted step.file gone is step.step in
-    (left.0, left_gone before.life step.file.life step.file reply after gone step.left ∙ left.1)
+    (left.0, left_gone IsDetached before.life step.file.life step.file reply after gone step.left ∙ left.1)
 
 step_stays : (before : SessionFile) (call : Call) (reply : FileReply) (waited faulted : Bool) (after : SessionFile) → life_in before ≡ life.Detached → SessionStep before call reply waited faulted after → SaysOrStarves (asks_name before call) (detached_reply before call) reply × (after ≡ before)
 step_stays (OfText before) call reply waited faulted (OfText after) gone step =
-    let left = text_stays (text.is_getter (text_call call)) before (text_call call) reply waited faulted after refl gone step in
-    (left.0, ap OfText left.1)
+    let left = text_stays (text.is_getter (text_call call)) before (text_call call) reply waited faulted step.file refl gone step.step in
+    (left.0, ap OfText (left_gone IsDetachedText before.life step.file.life step.file reply after gone step.left ∙ left.1))
 step_stays (OfBinary before) call reply waited faulted (OfBinary after) gone step =
     let left = file_stays (is_getter (file_call call)) before call reply waited faulted after refl gone step in
     (left.0, ap OfBinary left.1)
@@ -140,8 +141,8 @@ record Stays (before : SessionView) (call : Call) (reply : FileReply) (after : S
 text_answered_gone : (getter : Bool) (before : TextState) (call : TextFileCall) (reply : FileReply) (after : TextState) → text.is_getter call ≡ getter → before.text.life ≡ life.Detached → AnswersTextBy getter before call reply after → SaysOrStarves (tells_name call) (detached_text_by getter (state.file_of before) call) reply × (after ≡ record before { short = false })
 text_answered_gone true before call reply after is gone step = (step.says, step.same)
 text_answered_gone false before call reply after is gone step =
-    let left = step.refused fault.Detached (text_refused_by (state.file_of before) call life.Detached fault.Detached gone is refl refl) in
-    (says_so (tells_name call) (Refused fault.Detached) reply left.says, left.same)
+    let left = step.answers.refused fault.Detached (text_refused_by (state.file_of before) call life.Detached fault.Detached gone is refl refl) in
+    (says_so (tells_name call) (Refused fault.Detached) reply left.says, call_again before call reply after step left.same)
 
 stream_gone : (before : Stream) (call : FileCall) (reply : FileReply) (answered : Stream) → before.life ≡ life.Detached → is_getter call ≡ false → AnswersWith has_reply_room before call reply answered → Leaves before (Refused (detached_fault call)) reply answered
 stream_gone before OtherGetter reply answered gone asks a = a.refused fault.Unsupported refl

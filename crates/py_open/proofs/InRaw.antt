@@ -25,6 +25,7 @@ use Rattle.py_binary.specs.Binary.{AnswersBy}
 use Rattle.py_open.specs.Session.{SessionView, TextSession, BinarySession, file_seen, raw_of, life_of, owed_of, bytes_in, IsInStep, AnswersTextBy, Answers}
 use Rattle.py_open.specs.Run.{IsRun, IsSmooth, NoneLacksMemory, all_said}
 use Rattle.py_open.specs.Laws.{FilePassesAll, TextPassesAll, PassesAll, Completes}
+use Rattle.py_open.proofs.TextLeft.{call_life}
 use Rattle.py_open.proofs.Steps.{left_life, step_keeps, step_causes, step_completes, step_in_step}
 use Rattle.py_textio.proofs.Smooth.{uncaused}
 use Rattle.py_open.proofs.Ending.{step_passes}
@@ -64,7 +65,9 @@ text_goes settings writes call reply before after moves sound had live = inl (mo
 
 text_went : (getter : Bool) (before : TextState) (call : TextFileCall) (reply : FileReply) (after : TextState) → AnswersTextBy getter before call reply after → says_fault reply ≡ false → reply ≢ Refused fault.NoMemory → before.text.life ≡ life.Live → Goes after.text.life (TextPassesAll before.text.settings call reply)
 text_went true before call reply after step sound had live = inl (ap (λ (t : TextState). t.text.life) step.same ∙ live)
-text_went false before call reply after step sound had live = text_goes before.text.settings before.text.buffer.can.writable call reply before.text.life after.text.life step.moves.life_is sound had live
+text_went false before call reply after step sound had live =
+    subst (λ (current : Life). Goes current (TextPassesAll before.text.settings call reply)) (sym (call_life before call reply after step))
+    (text_goes before.text.settings before.text.buffer.can.writable call reply before.text.life step.answered.text.life step.answers.moves.life_is sound had live)
 
 stream_went : (getter : Bool) (before : Stream) (call : FileCall) (reply : FileReply) (after : Stream) → AnswersBy getter before call reply after → says_fault reply ≡ false → reply ≢ Refused fault.NoMemory → before.life ≡ life.Live → Goes after.life (FilePassesAll call reply)
 stream_went true before call reply after step sound had live = inl (ap (λ (s : Stream). s.life) step.same ∙ live)

@@ -1,3 +1,4 @@
+pub mod TextLeft
 pub mod Steps
 pub mod Ending
 pub mod Resting

@@ -8,6 +8,7 @@ use Rattle.py_flat.specs.Refusals.{is_getter}
 use Rattle.py_plain_text.specs.TextCalls as text
 use Rattle.py_plain_text.specs.TextCalls.{TextFileCall}
 use Rattle.py_stream.specs.Stream.{Stream}
+use Rattle.py_stream.specs.Buffer.{Buffer}
 use Rattle.py_stream.specs.Kinds.{goes_on}
 use Rattle.py_stream.specs.Answers.{AnswersWith, Leaves, LifeMoves, StarvesTo, refused_by}
 use Rattle.py_calls.specs.declared.call.Call.{Call}
@@ -16,11 +17,12 @@ use Rattle.py_calls.specs.declared.reply.Reply.{Reply}
 use Rattle.py_calls.specs.Calls.{text_call, file_call, said}
 use Rattle.py_read_text.specs.TextState as state
 use Rattle.py_read_text.specs.TextState.{TextState}
-use Rattle.py_read_text.specs.Answers as over
+use Rattle.py_text_session.specs.Handing.{AnswersCall}
 use Rattle.py_binary.specs.Binary.{has_reply_room, AnswersBy}
 use Rattle.py_open.specs.Session.{SessionView, TextSession, BinarySession, raw_of, life_of, AnswersTextBy, Answers}
 use Rattle.py_open.specs.Laws.{closed_file_reply}
 use Rattle.py_open.specs.Run.{IsRun}
+use Rattle.py_open.proofs.TextLeft.{call_raw, call_life, call_again}
 use Rattle.py_open.proofs.Steps.{left_raw, left_life, text_refused_by}
 use Rattle.py_open.proofs.Ending.{closed_leaves, closed_text_step}
 
@@ -92,26 +94,33 @@ binary_rests false before call reply after is dead step =
 
 -- Texts.
 
--- a session detaches no text so far
-pub never_detaches : (call : Call) → text.is_detach (text_call call) ≡ false
-never_detaches (call.Read size) = refl
-never_detaches call = refl
-
-text_dead : (current : Life) (before : TextState) (call : TextFileCall) (reply : FileReply) (after : TextState) → before.text.life ≡ current → current ≢ life.Live → text.is_getter call ≡ false → text.is_detach call ≡ false → over.Answers before call reply after → after ≡ record before { short = false }
-text_dead life.Live before call reply after is dead asks stays step = absurd (dead refl)
-text_dead life.Failed before call reply after is dead asks stays step = (step.refused fault.Failed (text_refused_by (state.file_of before) call life.Failed fault.Failed is asks stays refl)).same
-text_dead life.Closed before call reply after is dead asks stays step = (closed_text_step before call reply after asks is step).1
-text_dead life.Detached before call reply after is dead asks stays step = (step.refused fault.Detached (text_refused_by (state.file_of before) call life.Detached fault.Detached is asks refl refl)).same
-
 text_left_as_was : (before : TextState) (after : TextState) → before.text.life ≢ life.Live → after ≡ record before { short = false } → Rests (TextSession before) (TextSession after)
 text_left_as_was before after dead same = record { raw = ap (λ (t : TextState). t.text.buffer.raw) same; dead = λ live. dead (sym (ap (λ (t : TextState). t.text.life) same) ∙ live) }
 
-text_rests : (getter : Bool) (before : TextState) (call : Call) (reply : FileReply) (after : TextState) → text.is_getter (text_call call) ≡ getter → before.text.life ≢ life.Live → AnswersTextBy getter before (text_call call) reply after → Rests (TextSession before) (TextSession after)
+-- a failed text is detached at once, and refuses all else
+failed_rests : (before : TextState) (call : TextFileCall) (reply : FileReply) (after : TextState) → before.text.life ≡ life.Failed → before.text.life ≢ life.Live → text.is_getter call ≡ false → AnswersCall before call reply after → Rests (TextSession before) (TextSession after)
+failed_rests before text.Detach (Unwritten bytes place) after is dead asks step = record {
+  raw = call_raw before text.Detach (Unwritten bytes place) after step ∙ ap (λ (buffer : Buffer). buffer.raw) (step.hands.at_once is).0;
+  dead = λ live. let wrong : life.Detached ≡ life.Live = sym step.answers.moves.life_is ∙ (sym (call_life before text.Detach (Unwritten bytes place) after step) ∙ live) in absurd (cc);
+}
+failed_rests before text.Detach reply after is dead asks step = absurd (step.hands is)
+failed_rests before call reply after is dead asks step =
+    text_left_as_was before after dead (call_again before call reply after step (step.answers.refused fault.Failed (text_refused_by (state.file_of before) call life.Failed fault.Failed is asks refl refl)).same)
+
+text_dead : (current : Life) (before : TextState) (call : TextFileCall) (reply : FileReply) (after : TextState) → before.text.life ≡ current → before.text.life ≢ life.Live → text.is_getter call ≡ false → AnswersCall before call reply after → Rests (TextSession before) (TextSession after)
+text_dead life.Live before call reply after is dead asks step = absurd (dead is)
+text_dead life.Failed before call reply after is dead asks step = failed_rests before call reply after is dead asks step
+text_dead life.Closed before call reply after is dead asks step =
+    text_left_as_was before after dead (call_again before call reply after step (closed_text_step before call reply step.answered asks is step.answers).1)
+text_dead life.Detached before call reply after is dead asks step =
+    text_left_as_was before after dead (call_again before call reply after step (step.answers.refused fault.Detached (text_refused_by (state.file_of before) call life.Detached fault.Detached is asks refl refl)).same)
+
+text_rests : (getter : Bool) (before : TextState) (call : TextFileCall) (reply : FileReply) (after : TextState) → text.is_getter call ≡ getter → before.text.life ≢ life.Live → AnswersTextBy getter before call reply after → Rests (TextSession before) (TextSession after)
 text_rests true before call reply after is dead step = text_left_as_was before after dead step.same
-text_rests false before call reply after is dead step = text_left_as_was before after dead (text_dead before.text.life before (text_call call) reply after refl dead is (never_detaches call) step)
+text_rests false before call reply after is dead step = text_dead before.text.life before call reply after refl dead is step
 
 step_rests : (before : SessionView) (call : Call) (reply : Reply) (after : SessionView) → life_of before ≢ life.Live → Answers before call reply after → Rests before after
-step_rests (TextSession before) call reply (TextSession after) dead step = text_rests (text.is_getter (text_call call)) before call (said reply) after refl dead step.answers
+step_rests (TextSession before) call reply (TextSession after) dead step = text_rests (text.is_getter (text_call call)) before (text_call call) (said reply) after refl dead step.answers
 step_rests (BinarySession before) call reply (BinarySession after) dead step = binary_rests (is_getter (file_call call)) before (file_call call) (said reply) after refl dead step
 step_rests (TextSession before) call reply (BinarySession after) dead step = absurd step
 step_rests (BinarySession before) call reply (TextSession after) dead step = absurd step

@@ -1,15 +1,20 @@
 -- What holds of whole runs, from what holds of each call.
-use Rattle.std.proofs.Common.{◌≡◌, ℕ, Option, Some, None, suc, ◌+◌, ◌≤◌, min, nat_le, false, IsTrue, List, [], ◌∷◌, ◌++◌, length, refl, sym, ap, subst, ◌∙◌, arith}
+use Rattle.std.proofs.Common.{◌≡◌, ◌≢◌, ◌⊎◌, inl, inr, ℕ, Bool, true, not, Option, Some, None, suc, ◌+◌, ◌≤◌, min, nat_le, false, IsTrue, List, [], ◌∷◌, ◌++◌, length, refl, sym, ap, subst, ◌∙◌, arith}
 use Rattle.std.proofs.lemmas.Bool.{leb-false, lt-leb}
+use Rattle.py_flat.specs.declared.life.Life.{Life}
 use Rattle.py_flat.specs.declared.life.Life.TheVariants as life
+use Rattle.py_flat.specs.Bytes.{first_of}
+use Rattle.py_flat.specs.Lines.{first_line, is_ended}
 use Rattle.py_flat.specs.Limits.{greatest_count}
 use Rattle.py_flat.specs.Calls.{FileReply, Refused}
 use Rattle.py_flat.specs.declared.fault.IoFault.{IoFault}
+use Rattle.py_plain.specs.NewlineRule.{line_end}
 use Rattle.py_plain_text.specs.TextFile.{TextFile}
 use Rattle.py_plain_text.specs.TextCalls as text
-use Rattle.py_plain_text.specs.TextCalls.{TextFileCall}
 use Rattle.py_plain_text.specs.TextRefusals as refusals
-use Rattle.py_plain_text.specs.TextExact.{answered}
+use Rattle.py_plain_text.specs.Rest.{text_rest}
+use Rattle.py_plain_text.specs.TextStep.{range_refusal, asks_past, asks_any, after_taking, after_text_read, answered_text}
+use Rattle.py_plain_text.specs.TextExact.{carried_out, answered, exact}
 use Rattle.py_plain_text.specs.TextAllowed as text_file
 use Rattle.py_raw.specs.RawStream.{Raw, Keeps, tells, AnswersFor}
 use Rattle.py_raw.proofs.Telling.{keeps_same, tells_still}
@@ -17,19 +22,20 @@ use Rattle.py_raw.proofs.ReadingOn.{Keeps-then}
 use Rattle.py_stream.specs.Kinds.{says_fault}
 use Rattle.py_stream.specs.Answers.{ClosedWith}
 use Rattle.py_calls.specs.declared.call.Call.{Call}
+use Rattle.py_calls.specs.declared.call.Call.TheVariants as call
 use Rattle.py_calls.specs.declared.reply.Reply.{Reply}
 use Rattle.py_calls.specs.Calls.{text_call, said}
 use Rattle.py_stream.specs.declared.access.Access.{Access}
 use Rattle.py_mode.specs.declared.plan.OpenPlan.{OpenPlan}
 use Rattle.py_mode.specs.declared.plan.PlanKind.{PlanKind}
 use Rattle.py_mode.specs.declared.plan.PlanKind.TheVariants as kind
-use Rattle.py_open.specs.Session.{SessionFile, OfText, OfBinary, SessionView, TextSession, BinarySession, Settles, file_seen, raw_of, life_of, short_of, IsInStep}
+use Rattle.py_open.specs.Session.{SessionFile, OfText, OfBinary, SessionView, TextSession, BinarySession, Settles, SettlesTextFile, unwritten_in, file_seen, raw_of, life_of, short_of, IsInStep}
 use Rattle.py_open.specs.Opening.{access_of, OpensBy, OpensSession}
 use Rattle.py_open.specs.Run.{Entry, IsRun, IsHistory, IsCalm, IsSmooth, NoneLacksMemory, AllSettle, all_said, calls_of, replies_of}
-use Rattle.py_open.specs.Laws.{session_exact, exact_replies, exact_after, IsExact, HasHistory, RunsInTwo, RunsComplete, KeepsSettings, OnlyReads, SayAll, closed_reply, StaysClosed}
+use Rattle.py_open.specs.Laws.{left_exactly, session_left, session_exact, detaches, KnowsAnswers, exact_replies, exact_after, IsExact, HasHistory, RunsInTwo, RunsComplete, KeepsSettings, OnlyReads, SayAll, closed_reply, StaysClosed}
 use Rattle.py_open.proofs.Steps.{settings_kept, step_keeps, step_told, step_settles, smooth_step, step_completes, step_in_step, step_reads, step_spares, step_writes_none, step_shuts}
 use Rattle.py_open.proofs.Ending.{step_closed}
-use Rattle.py_open.proofs.Resting.{never_detaches}
+use Rattle.py_open.proofs.TextLeft.{left_exact}
 
 pub one_reply_each : (before : SessionView) (calls : List Call) (replies : List Reply) (after : SessionView) → IsRun before calls replies after → length replies ≡ length calls
 one_reply_each before [] [] after run = refl
@@ -156,29 +162,109 @@ smooth_completes before (call ∷ calls) [] after run smooth = absurd run
 
 -- Texts.
 
-accepted_is : (file : TextFile) (call : TextFileCall) (reply : FileReply) (after : TextFile) → text.is_detach call ≡ false → text_file.Accepted file call reply after → (reply, after) ≡ answered file call None
-accepted_is file text.Detach reply after stays is = absurd (cc)
-accepted_is file call reply after stays is = is
+detached_is : (current : Life) (file : TextFile) (reply : FileReply) (after : TextFile) → current ≢ life.Failed → text_file.DetachesIn current file reply after → (reply, after) ≡ answered file text.Detach None
+detached_is life.Failed file reply after lives is = absurd (lives refl)
+detached_is current file reply after lives is = is
 
-settled_is : (refused : Option IoFault) (file : TextFile) (call : TextFileCall) (reply : FileReply) (after : TextFile) → text.is_detach call ≡ false → text_file.SettledBy file call refused reply after → (reply, after) ≡ answered file call refused
-settled_is None file call reply after stays is = accepted_is file call reply after stays is
-settled_is (Some why) file call reply after stays is = ap (λ (says : FileReply). (says, after)) is.0 ∙ ap (λ (left : TextFile). (Refused why, left)) is.1
+-- the model knows the answer to a call
+abbrev pub KnowsAnswer : TextFile → Call → Type 0
+KnowsAnswer file made = (file.life ≢ life.Failed) ⊎ (detaches made ≡ false)
 
-exact_step : (before : TextFile) (call : Call) (reply : FileReply) (after : SessionFile) → Settles (OfText before) call reply after → (file : TextFile) × (after ≡ OfText file) × ((reply, file) ≡ session_exact before call)
-exact_step before call reply (OfText after) step = (after, refl, settled_is (refusals.refusal before (text_call call)) before (text_call call) reply after (never_detaches call) step)
-exact_step before call reply (OfBinary after) step = absurd step
+accepted_is : (file : TextFile) (made : Call) (reply : FileReply) (after : TextFile) → KnowsAnswer file made → text_file.Accepted file (text_call made) reply after → (reply, after) ≡ answered file (text_call made) None
+accepted_is file call.Detach reply after (inl lives) is = detached_is file.life file reply after lives is
+accepted_is file call.Detach reply after (inr other) is = absurd (cc)
+accepted_is file made reply after knows is = is
 
-pub settled_is_exact : (before : TextFile) (calls : List Call) (replies : List FileReply) (after : SessionFile) → AllSettle (OfText before) calls replies after → IsExact before calls replies after
-settled_is_exact before [] [] after settles = record { says = refl; leaves = settles }
-settled_is_exact before (call ∷ calls) (reply ∷ replies) after settles =
-    let step = exact_step before call reply settles.0 settles.1 in
-    let rest = settled_is_exact step.0 calls replies after (subst (λ (mid : SessionFile). AllSettle mid calls replies after) step.1 settles.2) in
+settled_is : (refused : Option IoFault) (file : TextFile) (made : Call) (reply : FileReply) (after : TextFile) → KnowsAnswer file made → text_file.SettledBy file (text_call made) refused reply after → (reply, after) ≡ answered file (text_call made) refused
+settled_is None file made reply after knows is = accepted_is file made reply after knows is
+settled_is (Some why) file made reply after knows is = ap (λ (says : FileReply). (says, after)) is.0 ∙ ap (λ (left : TextFile). (Refused why, left)) is.1
+
+settled_exactly : (file : TextFile) (made : Call) (reply : FileReply) (after : TextFile) → KnowsAnswer file made → text_file.Settled file (text_call made) reply after → (reply, after) ≡ exact file (text_call made)
+settled_exactly file made reply after knows is = settled_is (refusals.refusal file (text_call made)) file made reply after knows is
+
+-- such an answer hands nothing over, and leaves no text failed that hadn't failed
+read_none : (refused : Option IoFault) (file : TextFile) (characters : List ℕ) (after : TextFile) → unwritten_in (answered_text file refused characters after).0 ≡ []
+read_none None file characters after = refl
+read_none (Some why) file characters after = refl
+
+carried_none : (file : TextFile) (made : Call) → unwritten_in (carried_out file (text_call made)).0 ≡ []
+carried_none file (call.Read size) =
+    let rest = text_rest file in
+    read_none (range_refusal (asks_past size rest.characters) rest.refusal) file (first_of size rest.characters) (after_text_read file size (first_of size rest.characters))
+carried_none file (call.ReadLine limit) =
+    let rest = text_rest file in
+    let end = line_end file.settings.newline in
+    read_none (range_refusal (not (is_ended end limit rest.characters)) rest.refusal) file (first_line end limit rest.characters) (after_taking file (length (first_line end limit rest.characters)) (asks_any limit))
+carried_none file made = refl
+
+answered_none : (refused : Option IoFault) (file : TextFile) (made : Call) → unwritten_in (answered file (text_call made) refused).0 ≡ []
+answered_none None file made = carried_none file made
+answered_none (Some why) file made = refl
+
+read_lives : (refused : Option IoFault) (file : TextFile) (characters : List ℕ) (after : TextFile) → file.life ≢ life.Failed → after.life ≡ file.life → (answered_text file refused characters after).1.life ≢ life.Failed
+read_lives None file characters after lives same = λ failed. lives (sym same ∙ failed)
+read_lives (Some why) file characters after lives same = lives
+
+carried_lives : (file : TextFile) (made : Call) → file.life ≢ life.Failed → (carried_out file (text_call made)).1.life ≢ life.Failed
+carried_lives file (call.Read None) lives =
+    let rest = text_rest file in
+    read_lives (range_refusal true rest.refusal) file rest.characters (after_text_read file None rest.characters) lives refl
+carried_lives file (call.Read (Some size)) lives =
+    let rest = text_rest file in
+    read_lives (range_refusal (asks_past (Some size) rest.characters) rest.refusal) file (first_of (Some size) rest.characters) (after_text_read file (Some size) (first_of (Some size) rest.characters)) lives refl
+carried_lives file (call.ReadLine limit) lives =
+    let rest = text_rest file in
+    let end = line_end file.settings.newline in
+    read_lives (range_refusal (not (is_ended end limit rest.characters)) rest.refusal) file (first_line end limit rest.characters) (after_taking file (length (first_line end limit rest.characters)) (asks_any limit)) lives refl
+carried_lives file call.Close lives = λ failed. absurd (cc)
+carried_lives file call.Detach lives = λ failed. absurd (cc)
+carried_lives file made lives = lives
+
+answered_lives : (refused : Option IoFault) (file : TextFile) (made : Call) → file.life ≢ life.Failed → (answered file (text_call made) refused).1.life ≢ life.Failed
+answered_lives None file made lives = carried_lives file made lives
+answered_lives (Some why) file made lives = lives
+
+pub left_alive : (was current : Life) (file : TextFile) → file.life ≢ life.Failed → (left_exactly was current file).life ≢ life.Failed
+left_alive life.Detached current file lives = lives
+left_alive was life.Detached file lives = lives
+left_alive was current file lives = lives
+
+pub text_hands_none : (file : TextFile) (made : Call) (reply : FileReply) (after : TextFile) → KnowsAnswer file made → text_file.Settled file (text_call made) reply after → unwritten_in reply ≡ []
+text_hands_none file made reply after knows is =
+    ap (λ (p : FileReply × TextFile). unwritten_in p.0) (settled_exactly file made reply after knows is) ∙ answered_none (refusals.refusal file (text_call made)) file made
+
+-- a settled call of a text is the exact one of its session
+text_settled : (before : TextFile) (made : Call) (reply : FileReply) (after : TextFile) → KnowsAnswer before made → SettlesTextFile before (text_call made) reply after → (reply, after) ≡ session_exact before made
+text_settled before made reply after knows step =
+    let is = settled_exactly before made reply step.file knows step.settled in
+    let none : unwritten_in reply ≡ [] = text_hands_none before made reply step.file knows step.settled in
+    ap (λ (left : TextFile). (reply, left)) (left_exact before.life step.file.life step.file reply after refl none step.left)
+    ∙ ap (λ (p : FileReply × TextFile). session_left before.life p) is
+
+exact_step : (before : TextFile) (made : Call) (reply : FileReply) (after : SessionFile) → KnowsAnswer before made → Settles (OfText before) made reply after → (file : TextFile) × (after ≡ OfText file) × ((reply, file) ≡ session_exact before made)
+exact_step before made reply (OfText after) knows step = (after, refl, text_settled before made reply after knows step)
+exact_step before made reply (OfBinary after) knows step = absurd step
+
+knows_first : (file : TextFile) (made : Call) (calls : List Call) → KnowsAnswers file (made ∷ calls) → KnowsAnswer file made
+knows_first file made calls (inl lives) = inl lives
+knows_first file made calls (inr none) = inr none.0
+
+knows_more : (file : TextFile) (made : Call) (calls : List Call) → KnowsAnswers file (made ∷ calls) → KnowsAnswers (session_exact file made).1 calls
+knows_more file made calls (inl lives) = inl (left_alive file.life (exact file (text_call made)).1.life (exact file (text_call made)).1 (answered_lives (refusals.refusal file (text_call made)) file made lives))
+knows_more file made calls (inr none) = inr none.1
+
+pub settled_is_exact : (before : TextFile) (calls : List Call) (replies : List FileReply) (after : SessionFile) → KnowsAnswers before calls → AllSettle (OfText before) calls replies after → IsExact before calls replies after
+settled_is_exact before [] [] after knows settles = record { says = refl; leaves = settles }
+settled_is_exact before (call ∷ calls) (reply ∷ replies) after knows settles =
+    let step = exact_step before call reply settles.0 (knows_first before call calls knows) settles.1 in
+    let on : KnowsAnswers step.0 calls = subst (λ (p : FileReply × TextFile). KnowsAnswers p.1 calls) (sym step.2) (knows_more before call calls knows) in
+    let rest = settled_is_exact step.0 calls replies after on (subst (λ (mid : SessionFile). AllSettle mid calls replies after) step.1 settles.2) in
     record {
       says = ap (λ (more : List FileReply). reply ∷ more) rest.says ∙ ap (λ (p : FileReply × TextFile). p.0 ∷ exact_replies p.1 calls) step.2;
       leaves = rest.leaves ∙ ap (λ (p : FileReply × TextFile). OfText (exact_after p.1 calls)) step.2;
     }
-settled_is_exact before [] (reply ∷ replies) after settles = absurd settles
-settled_is_exact before (call ∷ calls) [] after settles = absurd settles
+settled_is_exact before [] (reply ∷ replies) after knows settles = absurd settles
+settled_is_exact before (call ∷ calls) [] after knows settles = absurd settles
 
 -- Runs in parts, and as histories.
 

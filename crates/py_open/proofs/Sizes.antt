@@ -1,5 +1,5 @@
 -- No reply hangs on how large buffers and chunks are.
-use Rattle.std.proofs.Common.{◌≡◌, ◌≢◌, ℕ, zero, suc, pos, Bool, true, false, List, [], ◌∷◌, Option, Some, None, refl, sym, ap, subst, ◌∙◌, if◌then◌else◌}
+use Rattle.std.proofs.Common.{inl, ◌≡◌, ◌≢◌, ℕ, zero, suc, pos, Bool, true, false, List, [], ◌∷◌, Option, Some, None, refl, sym, ap, subst, ◌∙◌, if◌then◌else◌}
 use Rattle.py_flat.specs.declared.fault.IoFault.{IoFault}
 use Rattle.py_flat.specs.declared.fault.IoFault.TheVariants as fault
 use Rattle.py_flat.specs.declared.life.Life.{Life}
@@ -11,15 +11,17 @@ use Rattle.py_flat.specs.Refusals.{refusal, is_getter, is_other_getter, life_fau
 use Rattle.py_flat.specs.ExactStep.{answered, carried_out}
 use Rattle.py_flat.specs.BinaryStep.{Settled, SettledBy, Accepted, DetachesIn}
 use Rattle.py_plain_text.specs.TextFile.{TextFile}
+use Rattle.py_plain_text.specs.TextExact.{with_chunk_size}
 use Rattle.py_textio.proofs.Sizes.{goes_alike, settled_alike}
 use Rattle.py_calls.specs.declared.call.Call.{Call}
 use Rattle.py_calls.specs.declared.call.Call.TheVariants as call
 use Rattle.py_calls.specs.declared.reply.Reply.{Reply}
 use Rattle.py_calls.specs.Calls.{text_call, file_call}
-use Rattle.py_open.specs.Session.{SessionFile, OfText, OfBinary, SessionView, TextSession, BinarySession, FileLeft, FileLeftBy, IsDetached, unwritten_in, FileSettlesBy, Settles, file_seen, life_of, life_in}
+use Rattle.py_open.specs.Session.{SessionFile, OfText, OfBinary, SessionView, TextSession, BinarySession, FileLeft, LeftBy, IsDetached, TextLeft, SettlesTextFile, unwritten_in, FileSettlesBy, Settles, file_seen, life_of, life_in}
 use Rattle.py_open.specs.Run.{AllSettle, all_said}
-use Rattle.py_open.specs.Laws.{with_buffer, AlikeButSizes, is_text, tells_size, NoneTellsSize, IsSmoothRun}
-use Rattle.py_open.proofs.Runs.{smooth_settles}
+use Rattle.py_open.specs.Laws.{left_exactly, with_buffer, AlikeButSizes, is_text, tells_size, NoneTellsSize, IsSmoothRun}
+use Rattle.py_open.proofs.TextLeft.{left_exact}
+use Rattle.py_open.proofs.Runs.{text_hands_none, left_alive, smooth_settles}
 
 -- two steps are alike: their replies, and the files that they leave but for the sizes; neither failed
 record StepsAlike (reply replied : FileReply) (left right : SessionFile) : Type 0 where
@@ -33,10 +35,29 @@ goes_on : (made : Call) → tells_size true made ≡ false → goes_alike (text_
 goes_on call.ChunkSize is = absurd (cc)
 goes_on made is = refl
 
+-- what is left of two such texts is alike
+left_sized : (was current : Life) (file : TextFile) (chunk : ℕ) → left_exactly was current (with_chunk_size file chunk) ≡ with_chunk_size (left_exactly was current file) chunk
+left_sized life.Detached current file chunk = refl
+left_sized was life.Detached file chunk = refl
+left_sized was current file chunk = refl
+
+settles_alike : (one : TextFile) (chunk : ℕ) (made : Call) (reply replied : FileReply) (left right : TextFile) → one.life ≢ life.Failed → tells_size true made ≡ false → SettlesTextFile one (text_call made) reply left → SettlesTextFile (with_chunk_size one chunk) (text_call made) replied right → StepsAlike reply replied (OfText left) (OfText right)
+settles_alike one chunk made reply replied left right lives none here there =
+    let both = settled_alike one chunk (text_call made) reply replied here.file there.file (goes_on made none) lives here.settled there.settled in
+    let none_here : unwritten_in reply ≡ [] = text_hands_none one made reply here.file (inl lives) here.settled in
+    let none_there : unwritten_in replied ≡ [] = ap unwritten_in both.says ∙ none_here in
+    let behind : TextLeft one.life (with_chunk_size here.file both.chunk) replied right = subst (λ (file : TextFile). TextLeft one.life file replied right) both.leaves there.left in
+    let left_is : left ≡ left_exactly one.life here.file.life here.file = left_exact one.life here.file.life here.file reply left refl none_here here.left in
+    let right_is : right ≡ left_exactly one.life here.file.life (with_chunk_size here.file both.chunk) = left_exact one.life here.file.life (with_chunk_size here.file both.chunk) replied right refl none_there behind in
+    record {
+      says = both.says;
+      alike = (both.chunk, right_is ∙ (left_sized one.life here.file.life here.file both.chunk ∙ ap (λ (file : TextFile). with_chunk_size file both.chunk) (sym left_is)));
+      lives = λ failed. left_alive one.life here.file.life here.file both.lives (sym (ap (λ (file : TextFile). file.life) left_is) ∙ failed);
+    }
+
 texts_alike : (one other : TextFile) (made : Call) (reply replied : FileReply) (left right : TextFile) → AlikeButSizes (OfText one) (OfText other) → one.life ≢ life.Failed → tells_size true made ≡ false → Settles (OfText one) made reply (OfText left) → Settles (OfText other) made replied (OfText right) → StepsAlike reply replied (OfText left) (OfText right)
 texts_alike one other made reply replied left right alike lives none here there =
-    let both = settled_alike one alike.0 (text_call made) reply replied left right (goes_on made none) lives here (subst (λ (file : TextFile). Settles (OfText file) made replied (OfText right)) alike.1 there) in
-    record { says = both.says; alike = (both.chunk, both.leaves); lives = both.lives }
+    settles_alike one alike.0 made reply replied left right lives none here (subst (λ (file : TextFile). Settles (OfText file) made replied (OfText right)) alike.1 there)
 
 -- Streams of bytes.
 
@@ -159,7 +180,7 @@ left_gone was is file reply left right own none here there =
     (ap (λ (f : FlatFile). record f { place = 0; life = life.Detached }) own) detaches_not
     (gone_as file reply left none here) (gone_as (with_buffer file is) reply right none there)
 
-left_alike : (was is : ℕ) (before current : Life) (file : FlatFile) (reply : FileReply) (left right : FlatFile) → file ≡ with_buffer file was → file.life ≢ life.Failed → unwritten_in reply ≡ [] → FileLeftBy before current file reply left → FileLeftBy before current (with_buffer file is) reply right → LeftAlike was is left right
+left_alike : (was is : ℕ) (before current : Life) (file : FlatFile) (reply : FileReply) (left right : FlatFile) → file ≡ with_buffer file was → file.life ≢ life.Failed → unwritten_in reply ≡ [] → LeftBy IsDetached before current file reply left → LeftBy IsDetached before current (with_buffer file is) reply right → LeftAlike was is left right
 left_alike was is life.Detached current file reply left right own lives none here there = left_same was is file left right own lives here there
 left_alike was is life.Live life.Detached file reply left right own lives none here there = left_gone was is file reply left right own none here there
 left_alike was is life.Failed life.Detached file reply left right own lives none here there = left_gone was is file reply left right own none here there

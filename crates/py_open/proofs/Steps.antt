@@ -35,12 +35,13 @@ use Rattle.py_calls.specs.Calls.{text_call, file_call, said}
 use Rattle.py_read_text.specs.TextState as state
 use Rattle.py_read_text.specs.TextState.{TextState}
 use Rattle.py_read_text.specs.Answers as over
-use Rattle.py_read_text.proofs.Living.{hands_none}
 use Rattle.py_textio.proofs.Smooth.{text_alone, uncaused}
 use Rattle.py_text_session.specs.Session.{OwesNothing}
+use Rattle.py_text_session.specs.Handing as session
+use Rattle.py_open.proofs.TextLeft.{call_raw, call_can, call_buffering, call_settings, call_life, call_closed, call_owes, told_at, left_text, left_as_it_is}
 use Rattle.py_binary.specs.Binary.{gone_stream, left_by, left_of, HandsOwed, AnswersCall, AnswersBy}
 use Rattle.py_binary.proofs.Leaving.{attached_on}
-use Rattle.py_open.specs.Session.{SessionFile, OfText, OfBinary, SessionView, TextSession, BinarySession, IsDetached, FileLeftBy, FileLeft, SaysOrStarves, AnswersTextBy, StaysOpenWithText, FileStepBy, SessionStep, FileSettlesBy, Settles, file_seen, raw_of, life_of, short_of, Answers, IsInStep}
+use Rattle.py_open.specs.Session.{SessionFile, OfText, OfBinary, SessionView, TextSession, BinarySession, IsDetached, LeftBy, FileLeft, TextLeft, LeavesTextFile, SaysOrStarves, AnswersTextBy, StaysOpenWithText, FileStepBy, SessionStep, FileSettlesBy, Settles, file_seen, raw_of, life_of, short_of, Answers, IsInStep}
 use Rattle.py_open.specs.Run.{IsSmooth}
 use Rattle.py_open.specs.Laws.{CompletesText, CompletesFile, Completes, gives, gives_chunk_size, SettingStays, KeepsText, KeepsSettings, OnlyReads}
 use Rattle.py_stream.proofs.Closing.{closes_whole}
@@ -77,11 +78,6 @@ left_settled life.Detached current stream none = none
 left_settled was life.Detached stream none = refl
 left_settled was current stream none = none
 
--- where what is handed over belongs, if that is told
-told_at : (seekable : Bool) (at place : ℕ) → (if seekable then Some at else None) ≡ Some place → at ≡ place
-told_at true at place is = cc
-told_at false at place is = cc
-
 -- a stream is detached by nothing but a `detach` that was answered, which leaves its bytes without those that it hands over
 detached_left : (before : Stream) (call : FileCall) (reply : FileReply) (a : Stream) → before.life ≢ life.Detached → a.life ≡ life.Detached → LifeMoves before.buffer call reply before.life a.life → HandsOwed before call reply a → IsDetached (file_of a) reply (file_of (gone_stream a.can a.buffer a.raw))
 detached_left before Detach (Unwritten bytes place) a was is moves hands = record {
@@ -95,7 +91,7 @@ detached_left before Detach (Unwritten bytes place) a was is moves hands = recor
 }
 detached_left before call reply a was is moves hands = absurd (attached_on before.buffer call reply before.life a.life moves (λ it bytes place says. cc) was is)
 
-left_file : (was current : Life) (before : Stream) (call : FileCall) (reply : FileReply) (a : Stream) → before.life ≡ was → a.life ≡ current → LifeMoves before.buffer call reply before.life a.life → HandsOwed before call reply a → FileLeftBy was current (file_of a) reply (file_of (left_by was current a))
+left_file : (was current : Life) (before : Stream) (call : FileCall) (reply : FileReply) (a : Stream) → before.life ≡ was → a.life ≡ current → LifeMoves before.buffer call reply before.life a.life → HandsOwed before call reply a → LeftBy IsDetached was current (file_of a) reply (file_of (left_by was current a))
 left_file life.Detached current before call reply a was is moves hands = refl
 left_file life.Live life.Detached before call reply a was is moves hands = detached_left before call reply a (λ gone. let wrong : life.Live ≡ life.Detached = sym was ∙ gone in absurd (cc)) is moves hands
 left_file life.Failed life.Detached before call reply a was is moves hands = detached_left before call reply a (λ gone. let wrong : life.Failed ≡ life.Detached = sym was ∙ gone in absurd (cc)) is moves hands
@@ -159,8 +155,14 @@ text_keeps true before call reply after step = (
     ap (λ (t : TextState). t.text.buffer.buffering) step.same,
   ),
 )
-text_keeps false before call reply after step =
-    (step.keeps.raw, (step.keeps.can, text_settings_keep before.text.settings call reply after.text.settings step.moves.settings, step.keeps.buffering))
+text_keeps false before call reply after step = (
+  subst (λ (raw : Raw). Keeps before.text.buffer.raw raw) (sym (call_raw before (text_call call) reply after step)) step.answers.keeps.raw,
+  (
+    call_can before (text_call call) reply after step ∙ step.answers.keeps.can,
+    text_settings_keep before.text.settings call reply after.text.settings (call_settings before (text_call call) reply after step ∙ step.answers.moves.settings),
+    call_buffering before (text_call call) reply after step ∙ step.answers.keeps.buffering,
+  ),
+)
 
 binary_keeps : (getter : Bool) (before : Stream) (call : FileCall) (reply : FileReply) (after : Stream) → AnswersBy getter before call reply after → Keeps before.raw after.raw × ((after.can ≡ before.can) × (after.buffer ≡ before.buffer))
 binary_keeps true before call reply after step = (
@@ -204,7 +206,9 @@ told_sound false expected reply sound says = ap says_fault says ∙ sound
 text_causes : (getter : Bool) (before : TextState) (call : TextFileCall) (reply : FileReply) (after : TextState) → text.is_getter call ≡ getter → AnswersTextBy getter before call reply after → HasCauses before.text.buffer.raw reply after.text.buffer.raw after.short
 text_causes true before call reply after is step =
     caused_none before.text.buffer.raw after.text.buffer.raw reply after.short (ap (λ (t : TextState). t.short) step.same) (told_sound (tells_name call) (carried_out (state.file_of before) call).0 reply (no_fault (state.file_of before) call is) step.says)
-text_causes false before call reply after is step = step.causes
+text_causes false before call reply after is step =
+    subst (λ (short : Bool). HasCauses before.text.buffer.raw reply after.text.buffer.raw short) (sym step.marks)
+    (subst (λ (raw : Raw). HasCauses before.text.buffer.raw reply raw step.answered.short) (sym (call_raw before call reply after step)) step.answers.causes)
 
 binary_causes : (getter : Bool) (before : Stream) (call : FileCall) (reply : FileReply) (after : Stream) → AnswersBy getter before call reply after → HasCauses before.raw reply after.raw after.short
 binary_causes true before call reply after step = caused_none before.raw after.raw reply after.short (ap (λ (s : Stream). s.short) step.same) (ap says_fault step.says)
@@ -238,10 +242,19 @@ text_asked file text.Errors reply waited faulted is (inl says) = settled (ap (λ
 text_asked file text.Errors reply waited faulted is (inr none) = out_of_memory none (inl (or_true (text_file.reaches_raw file text.Errors), refl))
 text_asked file call reply waited faulted is says = absurd (cc)
 
-text_told : (getter : Bool) (before : TextState) (call : TextFileCall) (reply : FileReply) (after : TextState) → text.is_getter call ≡ getter → AnswersTextBy getter before call reply after → IsTrue (tells before.text.buffer.raw) → TextFileStep (state.file_of before) call reply after.short (says_fault reply) (state.file_of after)
-text_told true before call reply after is step tells =
-    subst (λ (file : TextFile). TextFileStep (state.file_of before) call reply after.short (says_fault reply) file) (sym (ap state.file_of step.same)) (text_asked (state.file_of before) call reply after.short (says_fault reply) is step.says)
-text_told false before call reply after is step tells = step.told tells
+text_told : (getter : Bool) (before : TextState) (call : TextFileCall) (reply : FileReply) (after : TextState) → text.is_getter call ≡ getter → AnswersTextBy getter before call reply after → IsTrue (tells before.text.buffer.raw) → LeavesTextFile (state.file_of before) call reply after.short (says_fault reply) (state.file_of after)
+text_told true before call reply after is step tells = record {
+  file = state.file_of before;
+  step = text_asked (state.file_of before) call reply after.short (says_fault reply) is step.says;
+  left = subst (λ (file : TextFile). TextLeft before.text.life (state.file_of before) reply file) (sym (ap state.file_of step.same)) (left_as_it_is before.text.life (state.file_of before) reply);
+}
+text_told false before call reply after is step tells =
+    let a : TextState = step.answered in
+    record {
+      file = state.file_of a;
+      step = subst (λ (short : Bool). TextFileStep (state.file_of before) call reply short (says_fault reply) (state.file_of a)) (sym step.marks) (step.answers.told tells);
+      left = subst (λ (t : TextState). TextLeft before.text.life (state.file_of a) reply (state.file_of t)) (sym step.leaves) (left_text before.text.life a.text.life before call reply a refl refl step.answers step.hands);
+    }
 
 binary_told : (getter : Bool) (before : Stream) (call : Call) (reply : FileReply) (after : Stream) → AnswersBy getter before (file_call call) reply after → IsTrue (tells before.raw) → FileStepBy getter (file_of before) call reply after.short (says_fault reply) (file_of after)
 binary_told true before call reply after step tells = record { says = step.says; same = ap (λ (s : Stream). file_of s) step.same }
@@ -272,7 +285,7 @@ settles_by true before call reply waited faulted after no_wait no_fault had step
 settles_by false before call reply waited faulted after no_wait no_fault had step = record { file = step.file; settled = binary_alone before (file_call call) reply waited faulted step.file no_wait no_fault had step.step; left = step.left }
 
 pub step_settles : (before : SessionFile) (call : Call) (reply : FileReply) (waited faulted : Bool) (after : SessionFile) → waited ≡ false → faulted ≡ false → reply ≢ Refused fault.NoMemory → SessionStep before call reply waited faulted after → Settles before call reply after
-step_settles (OfText before) call reply waited faulted (OfText after) no_wait no_fault had step = text_alone before (text_call call) reply waited faulted after no_wait no_fault had step
+step_settles (OfText before) call reply waited faulted (OfText after) no_wait no_fault had step = record { file = step.file; settled = text_alone before (text_call call) reply waited faulted step.file no_wait no_fault had step.step; left = step.left }
 step_settles (OfBinary before) call reply waited faulted (OfBinary after) no_wait no_fault had step = settles_by (is_getter (file_call call)) before call reply waited faulted after no_wait no_fault had step
 step_settles (OfText before) call reply waited faulted (OfBinary after) no_wait no_fault had step = absurd step
 step_settles (OfBinary before) call reply waited faulted (OfText after) no_wait no_fault had step = absurd step
@@ -289,7 +302,9 @@ smooth_step before call reply after step tells smooth had =
 
 text_completes : (getter : Bool) (before : TextState) (call : TextFileCall) (reply : FileReply) (after : TextState) → AnswersTextBy getter before call reply after → IsSmooth before.text.buffer.raw after.text.buffer.raw → CompletesText getter before call reply
 text_completes true before call reply after step smooth = step.says
-text_completes false before call reply after step smooth = λ accepted. (step.complete accepted smooth.waits smooth.faults).answer
+text_completes false before call reply after step smooth =
+    let same : IsSmooth before.text.buffer.raw step.answered.text.buffer.raw = subst (λ (raw : Raw). IsSmooth before.text.buffer.raw raw) (call_raw before call reply after step) smooth in
+    λ accepted. (step.answers.complete accepted same.waits same.faults).answer
 
 binary_completes : (getter : Bool) (before : Stream) (call : Call) (reply : FileReply) (after : Stream) → AnswersBy getter before (file_call call) reply after → IsSmooth before.raw after.raw → CompletesFile getter before call reply
 binary_completes true before call reply after step smooth = step.says
@@ -306,32 +321,24 @@ step_completes (BinarySession before) call reply (TextSession after) step smooth
 
 -- Sessions that are in step with their raw, or only read.
 
--- a session's text isn't detached by a call
-no_text_detach : (call : Call) → text.is_detach (text_call call) ≡ false
-no_text_detach call = grind arith
-
 -- a text that isn't written, and owes nothing, goes on so
-pub text_owes_none : (getter : Bool) (before : TextState) (call : TextFileCall) (reply : FileReply) (after : TextState) → text.is_detach call ≡ false → AnswersTextBy getter before call reply after → before.text.buffer.can.writable ≡ false → OwesNothing before → OwesNothing after
-text_owes_none true before call reply after other step reads none = subst OwesNothing (sym step.same) (record { none = none.none; own = none.own; life_is = none.life_is })
-text_owes_none false before call reply after other step reads none = record {
-  none = (step.spares reads none.none).owed;
-  own = step.tied.owed reads ∙ none.own;
-  life_is = step.tied.life_is reads none.life_is (hands_none call reply other);
-}
+pub text_owes_none : (getter : Bool) (before : TextState) (call : TextFileCall) (reply : FileReply) (after : TextState) → AnswersTextBy getter before call reply after → before.text.buffer.can.writable ≡ false → OwesNothing before → OwesNothing after
+text_owes_none true before call reply after step reads none = subst OwesNothing (sym step.same) (record { none = none.none; own = none.own; life_is = none.life_is })
+text_owes_none false before call reply after step reads none = call_owes before call reply after step reads none
 
 pub text_bytes : (getter : Bool) (before : TextState) (call : TextFileCall) (reply : FileReply) (after : TextState) → AnswersTextBy getter before call reply after → before.text.buffer.can.writable ≡ false → OwesNothing before → IsTrue before.text.buffer.raw.tells_bytes → after.text.buffer.raw.bytes ≡ before.text.buffer.raw.bytes
 text_bytes true before call reply after step reads none tells = ap (λ (t : TextState). t.text.buffer.raw.bytes) step.same
-text_bytes false before call reply after step reads none tells = (step.spares reads none.none).bytes tells
+text_bytes false before call reply after step reads none tells = ap (λ (raw : Raw). raw.bytes) (call_raw before call reply after step) ∙ (step.answers.spares reads none.none).bytes tells
 
 -- what a text can do stays
 pub text_can : (getter : Bool) (before : TextState) (call : TextFileCall) (reply : FileReply) (after : TextState) → AnswersTextBy getter before call reply after → after.text.buffer.can ≡ before.text.buffer.can
 text_can true before call reply after step = ap (λ (t : TextState). t.text.buffer.can) step.same
-text_can false before call reply after step = step.keeps.can
+text_can false before call reply after step = call_can before call reply after step ∙ step.answers.keeps.can
 
-text_in_step : (getter : Bool) (before : TextState) (call : TextFileCall) (reply : FileReply) (after : TextState) → text.is_detach call ≡ false → AnswersTextBy getter before call reply after → IsInStep (TextSession before) → IsInStep (TextSession after)
-text_in_step getter before call reply after other step is = λ reads.
+text_in_step : (getter : Bool) (before : TextState) (call : TextFileCall) (reply : FileReply) (after : TextState) → AnswersTextBy getter before call reply after → IsInStep (TextSession before) → IsInStep (TextSession after)
+text_in_step getter before call reply after step is = λ reads.
     let read : before.text.buffer.can.writable ≡ false = sym (ap (λ (can : Abilities). can.writable) (text_can getter before call reply after step)) ∙ reads in
-    text_owes_none getter before call reply after other step read (is read)
+    text_owes_none getter before call reply after step read (is read)
 
 -- what a stream that doesn't write, or has no buffer, leaves owed
 owes_none : (before : Stream) (call : FileCall) (reply : FileReply) (after : Stream) → (step : AnswersCall before call reply after) → IsInStep (BinarySession before) → (after.can.writable ≡ false) ⊎ (after.buffer ≡ None) → step.answered.owed ≡ nothing_owed step.answered.place
@@ -349,14 +356,14 @@ binary_in_step true before call reply after step is = subst (λ (s : Stream). Is
 binary_in_step false before call reply after step is = λ none. subst (λ (s : Stream). s.owed ≡ nothing_owed s.place) (sym step.leaves) (left_settled before.life step.answered.life step.answered (owes_none before call reply after step is none))
 
 pub step_in_step : (before : SessionView) (call : Call) (reply : Reply) (after : SessionView) → Answers before call reply after → IsInStep before → IsInStep after
-step_in_step (TextSession before) call reply (TextSession after) step is = text_in_step (text.is_getter (text_call call)) before (text_call call) (said reply) after (no_text_detach call) step.answers is
+step_in_step (TextSession before) call reply (TextSession after) step is = text_in_step (text.is_getter (text_call call)) before (text_call call) (said reply) after step.answers is
 step_in_step (BinarySession before) call reply (BinarySession after) step is = binary_in_step (is_getter (file_call call)) before (file_call call) (said reply) after step is
 step_in_step (TextSession before) call reply (BinarySession after) step is = absurd step
 step_in_step (BinarySession before) call reply (TextSession after) step is = absurd step
 
 pub step_reads : (before : SessionView) (call : Call) (reply : Reply) (after : SessionView) → Answers before call reply after → OnlyReads before → OnlyReads after
 step_reads (TextSession before) call reply (TextSession after) step reads =
-    (ap (λ (can : Abilities). can.writable) (text_can (text.is_getter (text_call call)) before (text_call call) (said reply) after step.answers) ∙ reads.0, text_owes_none (text.is_getter (text_call call)) before (text_call call) (said reply) after (no_text_detach call) step.answers reads.0 reads.1)
+    (ap (λ (can : Abilities). can.writable) (text_can (text.is_getter (text_call call)) before (text_call call) (said reply) after step.answers) ∙ reads.0, text_owes_none (text.is_getter (text_call call)) before (text_call call) (said reply) after step.answers reads.0 reads.1)
 step_reads (BinarySession before) call reply (BinarySession after) step reads =
     let can = (binary_keeps (is_getter (file_call call)) before (file_call call) (said reply) after step).1.0 in
     let read : after.can.writable ≡ false = ap (λ (can : Abilities). can.writable) can ∙ reads.0 in
@@ -384,7 +391,7 @@ binary_writes_none false before call reply after step reads =
 
 text_writes_none : (getter : Bool) (before : TextState) (call : TextFileCall) (reply : FileReply) (after : TextState) → AnswersTextBy getter before call reply after → before.text.buffer.can.writable ≡ false → OwesNothing before → AnswersFor 0 before.text.buffer.raw after.text.buffer.raw
 text_writes_none true before call reply after step reads none = subst (λ (t : TextState). AnswersFor 0 before.text.buffer.raw t.text.buffer.raw) (sym step.same) (λ _. refl)
-text_writes_none false before call reply after step reads none = (step.spares reads none.none).written
+text_writes_none false before call reply after step reads none = subst (AnswersFor 0 before.text.buffer.raw) (sym (call_raw before call reply after step)) (step.answers.spares reads none.none).written
 
 pub step_writes_none : (before : SessionView) (call : Call) (reply : Reply) (after : SessionView) → Answers before call reply after → OnlyReads before → AnswersFor 0 (raw_of before) (raw_of after)
 step_writes_none (TextSession before) call reply (TextSession after) step reads = text_writes_none (text.is_getter (text_call call)) before (text_call call) (said reply) after step.answers reads.0 reads.1
@@ -420,8 +427,12 @@ text_shut before call reply after asks step reads still closed shut =
     subst (λ (current : Life). ClosedWith current after.text.buffer.raw) (was ∙ sym closed)
     (subst (λ (raw : Raw). ClosedWith before.text.life raw) (sym (closed_stays_raw before call reply after asks was refl step)) shut)
 
-text_shuts_by : (current : Life) (before : TextState) (call : TextFileCall) (reply : FileReply) (after : TextState) → after.text.life ≡ current → text.is_getter call ≡ false → over.Answers before call reply after → StaysOpenWithText after → OnlyReads (TextSession before) → OwesNothing after → ClosedWith before.text.life before.text.buffer.raw → ClosedWith after.text.life after.text.buffer.raw
-text_shuts_by life.Closed before call reply after is asks step opens reads still shut = text_shut before call reply after asks step reads still is shut
+text_shuts_by : (current : Life) (before : TextState) (call : TextFileCall) (reply : FileReply) (after : TextState) → after.text.life ≡ current → text.is_getter call ≡ false → session.AnswersCall before call reply after → StaysOpenWithText after → OnlyReads (TextSession before) → OwesNothing after → ClosedWith before.text.life before.text.buffer.raw → ClosedWith after.text.life after.text.buffer.raw
+text_shuts_by life.Closed before call reply after is asks step opens reads still shut =
+    let a : TextState = step.answered in
+    let closed : a.text.life ≡ life.Closed = sym (call_life before call reply after step) ∙ is in
+    let same : after ≡ a = call_closed before call reply after step closed in
+    subst (λ (t : TextState). ClosedWith t.text.life t.text.buffer.raw) (sym same) (text_shut before call reply a asks step.answers reads (subst OwesNothing same still) closed shut)
 text_shuts_by life.Live before call reply after is asks step opens reads still shut =
     let lives : after.text.life ≢ life.Closed = λ closed. let wrong : life.Live ≡ life.Closed = sym is ∙ closed in absurd (cc) in
     open_by after.text.life after.text.buffer.raw lives (opens lives).raw
@@ -432,9 +443,9 @@ text_shuts_by life.Detached before call reply after is asks step opens reads sti
     let lives : after.text.life ≢ life.Closed = λ closed. let wrong : life.Detached ≡ life.Closed = sym is ∙ closed in absurd (cc) in
     open_by after.text.life after.text.buffer.raw lives (opens lives).raw
 
-text_shuts : (getter : Bool) (before : TextState) (call : TextFileCall) (reply : FileReply) (after : TextState) → text.is_getter call ≡ getter → text.is_detach call ≡ false → AnswersTextBy getter before call reply after → StaysOpenWithText after → OnlyReads (TextSession before) → ClosedWith before.text.life before.text.buffer.raw → ClosedWith after.text.life after.text.buffer.raw
-text_shuts true before call reply after is other step opens reads shut = subst (λ (t : TextState). ClosedWith t.text.life t.text.buffer.raw) (sym step.same) shut
-text_shuts false before call reply after is other step opens reads shut = text_shuts_by after.text.life before call reply after refl is step opens reads (text_owes_none false before call reply after other step reads.0 reads.1) shut
+text_shuts : (getter : Bool) (before : TextState) (call : TextFileCall) (reply : FileReply) (after : TextState) → text.is_getter call ≡ getter → AnswersTextBy getter before call reply after → StaysOpenWithText after → OnlyReads (TextSession before) → ClosedWith before.text.life before.text.buffer.raw → ClosedWith after.text.life after.text.buffer.raw
+text_shuts true before call reply after is step opens reads shut = subst (λ (t : TextState). ClosedWith t.text.life t.text.buffer.raw) (sym step.same) shut
+text_shuts false before call reply after is step opens reads shut = text_shuts_by after.text.life before call reply after refl is step opens reads (text_owes_none false before call reply after step reads.0 reads.1) shut
 
 binary_shuts : (getter : Bool) (before : Stream) (call : FileCall) (reply : FileReply) (after : Stream) → AnswersBy getter before call reply after → OnlyReads (BinarySession before) → ClosedWith before.life before.raw → ClosedWith after.life after.raw
 binary_shuts true before call reply after step reads shut = subst (λ (s : Stream). ClosedWith s.life s.raw) (sym step.same) shut
@@ -446,7 +457,7 @@ binary_shuts false before call reply after step reads shut =
     (subst (λ (raw : Raw). ClosedWith (left_of before.life a).life raw) (sym (left_raw before.life a.life a)) (subst (λ (current : Life). ClosedWith current a.raw) (sym (left_life before.life a.life a refl)) closed))
 
 pub step_shuts : (before : SessionView) (call : Call) (reply : Reply) (after : SessionView) → Answers before call reply after → OnlyReads before → ClosedWith (life_of before) (raw_of before) → ClosedWith (life_of after) (raw_of after)
-step_shuts (TextSession before) call reply (TextSession after) step reads shut = text_shuts (text.is_getter (text_call call)) before (text_call call) (said reply) after refl (no_text_detach call) step.answers step.is_open reads shut
+step_shuts (TextSession before) call reply (TextSession after) step reads shut = text_shuts (text.is_getter (text_call call)) before (text_call call) (said reply) after refl step.answers step.is_open reads shut
 step_shuts (BinarySession before) call reply (BinarySession after) step reads shut = binary_shuts (is_getter (file_call call)) before (file_call call) (said reply) after step reads shut
 step_shuts (TextSession before) call reply (BinarySession after) step reads shut = absurd step
 step_shuts (BinarySession before) call reply (TextSession after) step reads shut = absurd step

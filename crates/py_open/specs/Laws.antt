@@ -1,11 +1,14 @@
 -- What holds of whole runs, whatever raw is below.
-use Rattle.std.specs.Prelude.{◌≡◌, Bool, true, false, IsTrue, ℕ, List, [], ◌∷◌, Option, None, is_some}
+use Rattle.std.specs.Prelude.{◌≡◌, ◌≢◌, ◌⊎◌, Bool, true, false, IsTrue, ℕ, List, [], ◌∷◌, Option, None, is_some}
 use Rattle.py_flat.specs.declared.fault.IoFault.TheVariants as fault
+use Rattle.py_flat.specs.declared.life.Life.{Life}
+use Rattle.py_flat.specs.declared.life.Life.TheVariants as life
 use Rattle.py_flat.specs.Calls.{FileCall, FileReply, Done, Count, Unwritten, Refused}
 use Rattle.py_flat.specs.Calls as file
 use Rattle.py_flat.specs.FlatFile.{Buffered, FlatFile}
 use Rattle.py_flat.specs.Refusals.{is_getter}
-use Rattle.py_plain_text.specs.TextFile.{TextSettings, TextFile}
+use Rattle.py_plain.specs.Units.{Unknown}
+use Rattle.py_plain_text.specs.TextFile.{TextSettings, TextFile, clean_at}
 use Rattle.py_plain_text.specs.TextCalls as text
 use Rattle.py_plain_text.specs.TextCalls.{TextFileCall, tells_name}
 use Rattle.py_plain_text.specs.TextRefusals.{refusal}
@@ -30,9 +33,23 @@ use Rattle.py_open.specs.Run.{Entry, IsRun, IsMarkedRun, IsHistory, IsSmooth, No
 
 -- Texts.
 
+-- a text without a place
+abbrev pub without_place : TextFile → TextFile
+without_place file = record file { place = clean_at 0 Unknown }
+
+-- what is left of a text, by its life before a call and after it: of one that the call detached no place
+abbrev pub left_exactly : (was is : Life) → TextFile → TextFile
+left_exactly life.Detached is file = file
+left_exactly was life.Detached file = without_place file
+left_exactly was is file = file
+
+-- what a text that a session calls is left as
+abbrev pub session_left : Life → FileReply × TextFile → FileReply × TextFile
+session_left was step = (step.0, left_exactly was step.1.life step.1)
+
 -- what a text answers and leaves where nothing waits, fails or runs out of memory
 abbrev pub session_exact : TextFile → Call → FileReply × TextFile
-session_exact file call = exact file (text_call call)
+session_exact file call = session_left file.life (exact file (text_call call))
 
 -- the replies of a list of calls, and the text after them
 abbrev pub exact_replies : TextFile → List Call → List FileReply
@@ -47,6 +64,20 @@ exact_after file (call ∷ calls) = exact_after (session_exact file call).1 call
 pub record IsExact (before : TextFile) (calls : List Call) (replies : List FileReply) (after : SessionFile) : Type 0 where
   pub says : replies ≡ exact_replies before calls
   pub leaves : after ≡ OfText (exact_after before calls)
+
+-- whether a call is a `detach`
+abbrev pub detaches : Call → Bool
+detaches call.Detach = true
+detaches call = false
+
+-- none of these calls is of a kind
+abbrev pub NoneIs : (Call → Bool) → List Call → Type 0
+NoneIs kind [] = Unit {0}
+NoneIs kind (call ∷ calls) = (kind call ≡ false) × NoneIs kind calls
+
+-- the model knows what a text answers to these calls: a text that failed isn't detached by them, which hands over what the raw hasn't
+abbrev pub KnowsAnswers : TextFile → List Call → Type 0
+KnowsAnswers file calls = (file.life ≢ life.Failed) ⊎ NoneIs detaches calls
 
 -- Sizes.
 
@@ -134,14 +165,9 @@ abbrev pub gives_chunk_size : Call → Bool
 gives_chunk_size (call.SetChunkSize size) = true
 gives_chunk_size call = false
 
--- none of these calls does
-abbrev pub NoneGives : (Call → Bool) → List Call → Type 0
-NoneGives gives [] = Unit {0}
-NoneGives gives (call ∷ calls) = (gives call ≡ false) × NoneGives gives calls
-
 -- a setting stays over calls of which none gives another
 abbrev pub SettingStays : {A : Type 0} → (Reconfigure → Option A) → (TextSettings → A) → (before : TextSettings) → List Call → (after : TextSettings) → Type 0
-SettingStays given own before calls after = NoneGives (gives given) calls → own after ≡ own before
+SettingStays given own before calls after = NoneIs (gives given) calls → own after ≡ own before
 
 -- so does each setting of a text
 pub record KeepsText (before : TextSettings) (calls : List Call) (after : TextSettings) : Type 0 where
@@ -150,7 +176,7 @@ pub record KeepsText (before : TextSettings) (calls : List Call) (after : TextSe
   pub newline : SettingStays (λ changes. changes.newline) (λ settings. settings.newline) before calls after
   pub line_buffering : SettingStays (λ changes. changes.line_buffering) (λ settings. settings.line_buffering) before calls after
   pub write_through : SettingStays (λ changes. changes.write_through) (λ settings. settings.write_through) before calls after
-  pub chunk_size : NoneGives gives_chunk_size calls → after.chunk_size ≡ before.chunk_size
+  pub chunk_size : NoneIs gives_chunk_size calls → after.chunk_size ≡ before.chunk_size
 
 -- what a session can do, its kind and its settings, stay over these calls
 abbrev pub KeepsSettings : SessionView → List Call → SessionView → Type 0

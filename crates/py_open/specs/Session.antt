@@ -8,7 +8,8 @@ use Rattle.py_flat.specs.Calls.{FileReply, Flag, Unwritten, Refused}
 use Rattle.py_flat.specs.FlatFile.{FlatFile}
 use Rattle.py_flat.specs.Refusals.{is_getter}
 use Rattle.py_flat.specs.BinaryStep.{Settled, BinaryStep}
-use Rattle.py_plain_text.specs.TextFile.{TextFile}
+use Rattle.py_plain.specs.Units.{Unknown}
+use Rattle.py_plain_text.specs.TextFile.{TextFile, clean_at}
 use Rattle.py_plain_text.specs.TextCalls.{TextFileCall, tells_name}
 use Rattle.py_plain_text.specs.TextCalls as text
 use Rattle.py_plain_text.specs.TextExact.{carried_out}
@@ -24,8 +25,8 @@ use Rattle.py_calls.specs.Calls.{text_call, file_call, said}
 use Rattle.py_read_text.specs.TextState as state
 use Rattle.py_read_text.specs.TextState.{TextState}
 use Rattle.py_read_text.specs.Owing.{all_owed}
-use Rattle.py_read_text.specs.Answers as over
 use Rattle.py_text_session.specs.Session.{IsOpen, OwesNothing}
+use Rattle.py_text_session.specs.Handing.{AnswersCall}
 use Rattle.py_binary.specs.Binary.{flag_of, AnswersBinary}
 
 -- a session, by its kind
@@ -89,10 +90,10 @@ pub record TellsText (before : TextState) (call : TextFileCall) (reply : FileRep
   pub says : SaysOrStarves (tells_name call) (carried_out (state.file_of before) call).0 reply
   pub same : after ≡ record before { short = false }
 
--- a call of a text: a question, or one that a text over a buffered stream answers
+-- a call of a text: a question, or one that the session's text answers
 abbrev pub AnswersTextBy : (asks : Bool) → TextState → TextFileCall → FileReply → TextState → Type 0
 AnswersTextBy true before call reply after = TellsText before call reply after
-AnswersTextBy false before call reply after = over.Answers before call reply after
+AnswersTextBy false before call reply after = AnswersCall before call reply after
 
 -- as long as a text isn't closed its raw is open, and so is its buffer
 abbrev pub StaysOpenWithText : TextState → Type 0
@@ -164,15 +165,28 @@ pub record IsDetached (file : FlatFile) (reply : FileReply) (after : FlatFile) :
   pub told : (place : ℕ) → place_in reply ≡ Some place → at ≡ place
   pub bytes : file.bytes ≡ lay after.bytes at (unwritten_in reply)
 
--- what a call leaves of a flat file, by its life before and after: all, but of one that it detached what is told of that. A file that
+-- so of a text, with its settings
+pub record IsDetachedText (file : TextFile) (reply : FileReply) (after : TextFile) : Type 0 where
+  pub life_is : after.life ≡ life.Detached
+  pub can : after.can ≡ file.can
+  pub settings : after.settings ≡ file.settings
+  pub place : after.place ≡ clean_at 0 Unknown
+  pub at : ℕ
+  pub told : (place : ℕ) → place_in reply ≡ Some place → at ≡ place
+  pub bytes : file.bytes ≡ lay after.bytes at (unwritten_in reply)
+
+-- what a call leaves of a file, by its life before and after: all, but of one that it detached what is told of that. A file that
 -- was detached before stays as it is, its bytes and its place too
-abbrev pub FileLeftBy : (was is : Life) → FlatFile → FileReply → FlatFile → Type 0
-FileLeftBy life.Detached is file reply after = after ≡ file
-FileLeftBy was life.Detached file reply after = IsDetached file reply after
-FileLeftBy was is file reply after = after ≡ file
+abbrev pub LeftBy : {File : Type 0} → (File → FileReply → File → Type 0) → (was is : Life) → File → FileReply → File → Type 0
+LeftBy detached life.Detached is file reply after = after ≡ file
+LeftBy detached was life.Detached file reply after = detached file reply after
+LeftBy detached was is file reply after = after ≡ file
 
 abbrev pub FileLeft : Life → FlatFile → FileReply → FlatFile → Type 0
-FileLeft was file reply after = FileLeftBy was file.life file reply after
+FileLeft was file reply after = LeftBy IsDetached was file.life file reply after
+
+abbrev pub TextLeft : Life → TextFile → FileReply → TextFile → Type 0
+TextLeft was file reply after = LeftBy IsDetachedText was file.life file reply after
 
 -- the allowed step of a flat file
 pub record LeavesFile (before : FlatFile) (call : Call) (reply : FileReply) (waited faulted : Bool) (after : FlatFile) : Type 0 where
@@ -185,6 +199,18 @@ pub record SettlesFile (before : FlatFile) (call : Call) (reply : FileReply) (af
   pub file : FlatFile
   pub settled : Settled before (file_call call) reply file
   pub left : FileLeft before.life file reply after
+
+-- the allowed step of a text
+pub record LeavesTextFile (before : TextFile) (call : TextFileCall) (reply : FileReply) (waited faulted : Bool) (after : TextFile) : Type 0 where
+  pub file : TextFile
+  pub step : TextFileStep before call reply waited faulted file
+  pub left : TextLeft before.life file reply after
+
+-- what a text answers and leaves where nothing waits, fails or runs out of memory
+pub record SettlesTextFile (before : TextFile) (call : TextFileCall) (reply : FileReply) (after : TextFile) : Type 0 where
+  pub file : TextFile
+  pub settled : text_file.Settled before call reply file
+  pub left : TextLeft before.life file reply after
 
 -- what a stream of bytes answers to one of the four questions
 abbrev pub flag_seen : FlatFile → Call → FileReply
@@ -201,7 +227,7 @@ FileStepBy false before call reply waited faulted after = LeavesFile before call
 
 -- the allowed step of a session's file: what a call may answer and leave, by whether the raw waited or failed
 abbrev pub SessionStep : SessionFile → Call → FileReply → Bool → Bool → SessionFile → Type 0
-SessionStep (OfText before) call reply waited faulted (OfText after) = TextFileStep before (text_call call) reply waited faulted after
+SessionStep (OfText before) call reply waited faulted (OfText after) = LeavesTextFile before (text_call call) reply waited faulted after
 SessionStep (OfBinary before) call reply waited faulted (OfBinary after) = FileStepBy (is_getter (file_call call)) before call reply waited faulted after
 SessionStep before call reply waited faulted after = ⊥
 
@@ -212,6 +238,6 @@ FileSettlesBy false before call reply after = SettlesFile before call reply afte
 -- what a call answers and leaves where nothing waits, fails or runs out of memory: the exact answer, but that a single transfer
 -- gives some front of what is asked
 abbrev pub Settles : SessionFile → Call → FileReply → SessionFile → Type 0
-Settles (OfText before) call reply (OfText after) = text_file.Settled before (text_call call) reply after
+Settles (OfText before) call reply (OfText after) = SettlesTextFile before (text_call call) reply after
 Settles (OfBinary before) call reply (OfBinary after) = FileSettlesBy (is_getter (file_call call)) before call reply after
 Settles before call reply after = ⊥

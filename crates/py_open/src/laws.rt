@@ -21,7 +21,7 @@ ghost use Rattle.py_open.specs.Opening.{OpensSession, RefusesSession};
 ghost use Rattle.py_open.specs.OpenedFile.{opened_file};
 ghost use Rattle.py_open.specs.Paths.{raw_mode, RefusesOrLacks};
 ghost use Rattle.py_open.specs.Run.{Entry, IsRun, IsHistory, IsCalm, IsSmooth, NoneLacksMemory, AllSettle, all_said, calls_of, replies_of};
-ghost use Rattle.py_open.specs.Laws.{AlikeButSizes, NoneTellsSize, is_text, IsSmoothRun, IsExact, HasHistory, RunsInTwo, RunsComplete, KeepsSettings, OnlyReads, PassesAll, HoldsFlat, StaysClosed, StaysDetached, FileStaysDetached};
+ghost use Rattle.py_open.specs.Laws.{AlikeButSizes, NoneTellsSize, is_text, IsSmoothRun, IsExact, KnowsAnswers, HasHistory, RunsInTwo, RunsComplete, KeepsSettings, OnlyReads, PassesAll, HoldsFlat, StaysClosed, StaysDetached, FileStaysDetached};
 
 /// A run over a raw that tells, in which no count of the raw rose and no call ran out of memory, is the model's: there is a flat
 /// file between any two calls, and each reply is what the file there answers, exactly, but that a single transfer gives some front
@@ -31,9 +31,9 @@ pub fn a_smooth_run_settles()
 {}
 
 /// Calls of a text that all settle are answered by the exact replies, and leave the exact text: two such lists are alike, whatever
-/// pieces their raws moved.
+/// pieces their raws moved. Not said is it of a text that had failed and is detached: what that hands over the model doesn't know.
 pub fn a_settled_text_is_exact()
-    ensures { (before : TextFile) (calls : List Call) (replies : List FileReply) (after : SessionFile) → AllSettle (OfText before) calls replies after → IsExact before calls replies after }
+    ensures { (before : TextFile) (calls : List Call) (replies : List FileReply) (after : SessionFile) → KnowsAnswers before calls → AllSettle (OfText before) calls replies after → IsExact before calls replies after }
 {}
 
 /// A run, over any raw, told or not, in which no count of the raw rose is complete: each call that the session doesn't refuse is

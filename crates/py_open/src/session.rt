@@ -87,7 +87,7 @@ impl<R: RawStream> Session<R> {
 
     /// Makes one call.
     ///
-    /// A text has `Read`, `ReadLine`, `WriteText`, as far as it reads and writes, `SetChunkSize`, `Reconfigure`, `Flush` and `Close`; a
+    /// A text has `Read`, `ReadLine`, `WriteText`, as far as it reads and writes, `SetChunkSize`, `Reconfigure`, `Flush`, `Close` and `Detach`; a
     /// stream of bytes all but the calls of texts, as far as it reads, writes and can be moved, and without a buffer no `Read1`, `ReadInto1`, `Peek` and
     /// `Detach`. The four questions `Readable`, `Writable`, `Seekable` and `Closed` are answered by a `Flag` in every life, and so are a
     /// text's `ChunkSize` by a `Count` of bytes, `Encoding` and `Errors` by a `Name`, or `NoMemory` for that.
@@ -105,7 +105,7 @@ impl<R: RawStream> Session<R> {
     ///
     /// A write without a buffer whose raw would have blocked is `NotReady`, with nothing taken. Else a call is `Refused`:
     ///
-    /// - `Failed` once a fault or running out of memory failed the session (a stream with a buffer may still be detached), `Closed` after a
+    /// - `Failed` once a fault or running out of memory failed the session (a text and a stream with a buffer may still be detached), `Closed` after a
     ///   `Close` (which may be made again), `Detached` after a `Detach`; then `Unsupported` to a call that the session lacks,
     ///   `BadWhence`, `NegativeSeek` and `TooFar`: no raw is called, but for a `Seek` from the end, and all stays as it was.
     ///   `ChunkSize`, `Encoding` and `Errors` are `Unsupported` in every life of a stream of bytes.

@@ -5,12 +5,13 @@ ghost use Rattle.py_plain_text.specs.TextCalls.{is_getter};
 ghost use Rattle.py_calls.specs.Calls.{text_call, said};
 ghost use Rattle.py_stream.specs.Replies.{count_reply, done_reply};
 ghost use Rattle.py_text_session.specs.Answers as seen;
+ghost use Rattle.py_text_session.specs.Handing.{unwritten_reply};
 ghost use Rattle.py_open.specs.Session.{SaysOrStarves, AnswersTextBy, AnswersText};
 
 use py_calls::{Call, Reply};
 use py_flat::{Chars, IoFault};
-use py_raw::RawStream;
-use py_text_session::TextSession;
+use py_raw::{Data, RawStream};
+use py_text_session::{TextSession, TextUnwritten};
 use std::alloc::Global;
 
 /// Makes a call on a text; what a text doesn't have so far, it refuses.
@@ -38,6 +39,7 @@ fn made<R: RawStream>(alloc: Global, text: &mut TextSession<R>, call: &Call) -> 
         Call::Reconfigure(changes) => done_reply(text.reconfigure(*changes)),
         Call::Flush => done_reply(text.flush()),
         Call::Close => done_reply(text.close()),
+        Call::Detach => unwritten_reply(text.detach()),
         Call::ChunkSize => {
             let size = text.chunksize();
             told(text, Reply::Count(size as u64))
@@ -106,6 +108,22 @@ fn count_reply(answer: Result<usize, IoFault>) -> Reply
 {
     match answer {
         Ok(count) => Reply::Count(count as u64),
+        Err(fault) => Reply::Refused(fault),
+    }
+}
+
+/// The reply of a detaching.
+fn unwritten_reply(answer: Result<TextUnwritten, IoFault>) -> Reply
+    ensures { said result ≡ unwritten_reply answer }
+{
+    match answer {
+        Ok(unwritten) => {
+            let TextUnwritten { bytes, place } = unwritten;
+            Reply::Unwritten {
+                bytes: Data::from_vec(bytes),
+                place,
+            }
+        }
         Err(fault) => Reply::Refused(fault),
     }
 }

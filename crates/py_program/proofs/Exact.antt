@@ -26,7 +26,7 @@ use Rattle.py_mode.specs.Plan.{built_in_plan}
 use Rattle.py_open.specs.Session.{SessionFile, OfText, SessionView, TextSession, BinarySession, file_seen, raw_of, life_of, bytes_in}
 use Rattle.py_open.specs.Opening.{access_of, OpensBy}
 use Rattle.py_open.specs.Run.{IsRun, IsSmooth, NoneLacksMemory, RunsCalls, AllSettle, all_said}
-use Rattle.py_open.specs.Laws.{IsExact}
+use Rattle.py_open.specs.Laws.{KnowsAnswers, IsExact}
 use Rattle.py_open.proofs.Runs.{smooth_completes, run_spares, opened_in_step}
 use Rattle.py_open.proofs.InRaw.{close_leaves_in_raw}
 use Rattle.py_open.proofs.OpenedFile.{file_opened}
@@ -175,7 +175,7 @@ prints_settled law words old new before after path mode args plan ends form acce
 
 -- calls of a text that all settle are answered by the exact replies
 abbrev pub SettledTextsAreExact : Type 0
-SettledTextsAreExact = (before : TextFile) (calls : List Call) (replies : List FileReply) (after : SessionFile) → AllSettle (OfText before) calls replies after → IsExact before calls replies after
+SettledTextsAreExact = (before : TextFile) (calls : List Call) (replies : List FileReply) (after : SessionFile) → KnowsAnswers before calls → AllSettle (OfText before) calls replies after → IsExact before calls replies after
 
 -- what a run that only reads leaves at the path is what it held
 held_still : (plan : OpenPlan) (calls : List Call) (replies : List Reply) (raw : Raw) (session : SessionView) (held : Option (List ℕ)) (bytes : List ℕ) → access_of plan.mode ≡ access.Read → held ≡ Some bytes → tells raw ≡ true → raw.bytes ≡ opened_bytes (raw_mode plan) held → (run : RunsCalls raw plan calls session replies) → (raw_of session).bytes ≡ bytes
@@ -206,7 +206,7 @@ prints_exactly law exact words old new before after path mode args plan text end
     let made : List Call = closed_calls printed.calls in
     let is_exact : (memory : NoneLacksMemory (all_said printed.replies)) → IsExact (text_by plan.mode text bytes) made (all_said printed.replies) (printed.says memory).last = λ memory.
     let settles = printed.says memory in
-    exact (text_by plan.mode text bytes) made (all_said printed.replies) settles.last (subst (λ (begun : SessionFile). AllSettle begun made (all_said printed.replies) settles.last) (text_opened_by plan text bytes is_text) settles.settles) in
+    exact (text_by plan.mode text bytes) made (all_said printed.replies) settles.last (inl (λ failed. let never : life.Live ≡ life.Failed = failed in absurd (cc))) (subst (λ (begun : SessionFile). AllSettle begun made (all_said printed.replies) settles.last) (text_opened_by plan text bytes is_text) settles.settles) in
     record {
       calls = printed.calls;
       form = printed.form;
