@@ -1,5 +1,5 @@
 -- The plain decoding, one item at a time.
-use Rattle.std.proofs.Common.{◌≡◌, ℕ, zero, suc, ◌+◌, ◌-◌, ◌<◌, ◌≤◌, Bool, true, nat_eq, List, [], ◌∷◌, ◌++◌, length as len, get_or, drop, Some, IfSome, refl, sym, ap, subst, ◌∙◌, arith}
+use Rattle.std.proofs.Common.{◌≡◌, ℕ, zero, suc, ◌+◌, ◌-◌, ◌<◌, ◌≤◌, Bool, nat_eq, List, [], ◌∷◌, ◌++◌, length as len, get_or, drop, Some, IfSome, refl, sym, ap, subst, ◌∙◌, arith}
 use Rattle.std.proofs.lemmas.List.{drop_more, drop-drop, append_assoc}
 use Rattle.py_plain.specs.declared.encoding.Encoding.{Encoding}
 use Rattle.py_plain.specs.declared.handler.Handler.{Handler}
@@ -7,7 +7,7 @@ use Rattle.py_plain.specs.declared.unit.Unit.TheVariants.{Character}
 use Rattle.py_plain.specs.Units.{Order, first_unit}
 use Rattle.py_plain.specs.UnitLaws.{IsWithin}
 use Rattle.py_plain.specs.Handlers.{Treatment, treatment}
-use Rattle.py_plain.specs.Items.{Item, Walk, FirstItem, Given, RefusedRange, Unfinished, item_of, first_item, used_behind, onto_walk, walk_from, plain, characters_of, refusal_of}
+use Rattle.py_plain.specs.Items.{Item, Walk, FirstItem, Given, RefusedRange, Unfinished, item_of, first_item, used_behind, onto_walk, walk_from, decoding, characters_of, refusal_of}
 use Rattle.py_plain.proofs.AnyUnits.{unit_within_any}
 
 -- the characters of some items and of more after them
@@ -54,25 +54,25 @@ walk-character encoding treat last order place (byte ∷ rest) c n is =
     ∙ ap (λ k. onto_walk order place (Given (c ∷ []) n) (walk_from encoding treat last order (place + n) 0 (drop k (byte ∷ rest)))) behind
 
 -- the decoding from a place on begins with the item there
-pub plain-given : (encoding : Encoding) (treat : Treatment) (order : Order) (bytes : List ℕ) (place : ℕ) (cs : List ℕ) (used : ℕ) → place < len bytes → 1 ≤ used → first_item encoding treat true order place (drop place bytes) ≡ Given cs used → plain encoding treat order bytes place ≡ onto_walk order place (Given cs used) (plain encoding treat order bytes (place + used))
-plain-given encoding treat order bytes place cs used inside some first =
+pub decoding-given : (encoding : Encoding) (treat : Treatment) (last : Bool) (order : Order) (bytes : List ℕ) (place : ℕ) (cs : List ℕ) (used : ℕ) → place < len bytes → 1 ≤ used → first_item encoding treat last order place (drop place bytes) ≡ Given cs used → decoding encoding treat last order bytes place ≡ onto_walk order place (Given cs used) (decoding encoding treat last order bytes (place + used))
+decoding-given encoding treat last order bytes place cs used inside some first =
     let split = drop_more bytes place 0 inside in
     let behind : drop (used - 1) (drop (place + 1) bytes) ≡ drop (place + used) bytes = drop-drop (used - 1) (place + 1) bytes ∙ ap (λ k. drop k bytes) (omega arith) in
-    ap (λ bs. walk_from encoding treat true order place 0 bs) split
-    ∙ walk-given encoding treat true order place (get_or bytes place 0) (drop (place + 1) bytes) cs used some (ap (λ bs. first_item encoding treat true order place bs) (sym split) ∙ first)
-    ∙ ap (λ bs. onto_walk order place (Given cs used) (walk_from encoding treat true order (place + used) 0 bs)) behind
+    ap (λ bs. walk_from encoding treat last order place 0 bs) split
+    ∙ walk-given encoding treat last order place (get_or bytes place 0) (drop (place + 1) bytes) cs used some (ap (λ bs. first_item encoding treat last order place bs) (sym split) ∙ first)
+    ∙ ap (λ bs. onto_walk order place (Given cs used) (walk_from encoding treat last order (place + used) 0 bs)) behind
 
 -- what is out at a place, and what comes from there on, are the whole decoding
-pub record Continues (encoding : Encoding) (handler : Handler) (order : Order) (bytes : List ℕ) (from place : ℕ) (out : List ℕ) : Type 0 where
-  pub characters : out ++ characters_of (plain encoding (treatment handler encoding) order bytes place).items ≡ characters_of (plain encoding (treatment handler encoding) order bytes from).items
-  pub refusal : refusal_of (plain encoding (treatment handler encoding) order bytes place).ending ≡ refusal_of (plain encoding (treatment handler encoding) order bytes from).ending
+pub record Continues (encoding : Encoding) (handler : Handler) (last : Bool) (order : Order) (bytes : List ℕ) (from place : ℕ) (out : List ℕ) : Type 0 where
+  pub characters : out ++ characters_of (decoding encoding (treatment handler encoding) last order bytes place).items ≡ characters_of (decoding encoding (treatment handler encoding) last order bytes from).items
+  pub refusal : refusal_of (decoding encoding (treatment handler encoding) last order bytes place).ending ≡ refusal_of (decoding encoding (treatment handler encoding) last order bytes from).ending
 
 -- the characters of one item more are out
-pub Continues-next : (encoding : Encoding) (handler : Handler) (order : Order) (bytes : List ℕ) (from place : ℕ) (out : List ℕ) (cs : List ℕ) (used : ℕ) → place < len bytes → 1 ≤ used → first_item encoding (treatment handler encoding) true order place (drop place bytes) ≡ Given cs used → Continues encoding handler order bytes from place out → Continues encoding handler order bytes from (place + used) (out ++ cs)
-Continues-next encoding handler order bytes from place out cs used inside some first before =
+pub Continues-next : (encoding : Encoding) (handler : Handler) (last : Bool) (order : Order) (bytes : List ℕ) (from place : ℕ) (out : List ℕ) (cs : List ℕ) (used : ℕ) → place < len bytes → 1 ≤ used → first_item encoding (treatment handler encoding) last order place (drop place bytes) ≡ Given cs used → Continues encoding handler last order bytes from place out → Continues encoding handler last order bytes from (place + used) (out ++ cs)
+Continues-next encoding handler last order bytes from place out cs used inside some first before =
     let treat = treatment handler encoding in
-    let step = plain-given encoding treat order bytes place cs used inside some first in
+    let step = decoding-given encoding treat last order bytes place cs used inside some first in
     record {
-      characters = append_assoc out cs (characters_of (plain encoding treat order bytes (place + used)).items) ∙ ap (λ w. out ++ characters_of w.items) (sym step) ∙ before.characters;
+      characters = append_assoc out cs (characters_of (decoding encoding treat last order bytes (place + used)).items) ∙ ap (λ w. out ++ characters_of w.items) (sym step) ∙ before.characters;
       refusal = ap (λ w. refusal_of w.ending) (sym step) ∙ before.refusal;
     }

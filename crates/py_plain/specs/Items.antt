@@ -82,6 +82,10 @@ refusal_of AtEnd = None
 refusal_of (AtRange start end) = Some (start, end)
 refusal_of (AtCut start) = None
 
+-- the decoding of all bytes from a place on; `last` says that none come after them
+abbrev pub decoding : Encoding → Treatment → (last : Bool) → Order → List ℕ → ℕ → Walk
+decoding encoding treat last order bytes place = walk_from encoding treat last order place 0 (drop place bytes)
+
 -- the plain decoding: the items of all bytes from a place on, with nothing after them
 abbrev pub plain : Encoding → Treatment → Order → List ℕ → ℕ → Walk
-plain encoding treat order bytes place = walk_from encoding treat true order place 0 (drop place bytes)
+plain encoding treat order bytes place = decoding encoding treat true order bytes place

@@ -47,3 +47,7 @@ read_all rule held cs = read_so_far rule held cs ++ released (holds_after rule h
 -- the newline rule, a rewriting of a whole list of characters
 abbrev pub translated : Newlines → List ℕ → List ℕ
 translated rule cs = read_all rule false cs
+
+-- the newline rule over a list of characters; only where none come after them, as `last` says, is a held CR released
+abbrev pub translated_to : (last : Bool) → Newlines → List ℕ → List ℕ
+translated_to last rule cs = read_so_far rule false cs ++ released (last && holds_after rule false cs)

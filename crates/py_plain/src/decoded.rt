@@ -1,14 +1,14 @@
 ghost use Rattle.std.specs.Prelude.{◌≡◌, ◌<◌, ◌≤◌, ℕ, length, IfOk};
 ghost use Rattle.py_plain.specs.Units.{Order};
 ghost use Rattle.py_plain.specs.Handlers.{treatment};
-ghost use Rattle.py_plain.specs.Items.{first_item, item_handled, plain, characters_of, refusal_of};
+ghost use Rattle.py_plain.specs.Items.{first_item, item_handled, decoding, characters_of, refusal_of};
 ghost use Rattle.py_plain.specs.Decoding.{Gives, IsSeenIn};
 
 use crate::replacement::push_replacement;
 use crate::{Encoding, Handler, Unit, first_unit};
 use std::alloc::{AllocError, Global};
 
-/// What all the bytes from a place on decode to.
+/// What bytes from a place on decode to.
 #[derive(Debug, Drop)]
 pub struct Decoded {
     /// The characters up to the end of the bytes or up to a refused range.
@@ -80,7 +80,8 @@ pub fn first_item(
     }
 }
 
-/// The plain decoding: all the bytes from a place on, with nothing after them.
+/// The decoding of all the bytes from a place on; `last` says that none come after them. Where more may come a sequence that the
+/// end cuts gives no characters and is no refusal.
 ///
 /// A place at or past the end of the bytes gives no characters. The `Err` means out of memory.
 pub fn decode(
@@ -89,11 +90,12 @@ pub fn decode(
     handler: Handler,
     bytes: &[u8],
     from: usize,
+    last: bool,
 ) -> Result<Decoded, AllocError>
     ensures characters { IfOk result (λ d. (order : Order) → d.characters.items
-        ≡ characters_of (plain encoding (treatment handler encoding) order bytes.now from).items) }
+        ≡ characters_of (decoding encoding (treatment handler encoding) last order bytes.now from).items) }
     ensures refusal { IfOk result (λ d. (order : Order) → d.refusal
-        ≡ refusal_of (plain encoding (treatment handler encoding) order bytes.now from).ending) }
+        ≡ refusal_of (decoding encoding (treatment handler encoding) last order bytes.now from).ending) }
 {
     let mut characters = Vec::new(alloc);
     let mut place = from;
@@ -104,7 +106,7 @@ pub fn decode(
             encoding,
             handler,
             &bytes[place..],
-            true,
+            last,
         )? {
             FirstItem::Given { used } => place += used,
             FirstItem::Unfinished => {

@@ -1,6 +1,6 @@
-ghost use Rattle.std.specs.Prelude.{◌≡◌, ◌++◌, ◌==◌, false, option_map, IfOk, OnOk};
+ghost use Rattle.std.specs.Prelude.{◌≡◌, ◌++◌, ◌==◌, ◌&&◌, option_map, IfOk, OnOk};
 ghost use Rattle.py_flat.specs.Lines.{cr};
-ghost use Rattle.py_plain.specs.NewlineRule.{released, passes, universal, ends_held, translated};
+ghost use Rattle.py_plain.specs.NewlineRule.{released, passes, translated_to};
 ghost use Rattle.py_plain.specs.NewlineArgument.{rule_of};
 
 use std::alloc::{AllocError, Global};
@@ -68,10 +68,16 @@ fn is_cr(character: char) -> bool
     character == '\r'
 }
 
-/// CR LF and CR as LF.
-fn universal(alloc: Global, characters: &[char]) -> Result<Vec<char>, AllocError>
-    ensures { IfOk result (λ v. v.items
-        ≡ universal false characters.now ++ released (ends_held false characters.now)) }
+/// Whether an LF is given at the end of some characters for a CR that is held there.
+fn releases(last: bool, held: bool) -> bool
+    ensures { result ≡ (last && held) }
+{
+    last && held
+}
+
+/// CR LF and CR as LF; a CR at the end gives none yet where more characters may come.
+fn universal(alloc: Global, characters: &[char], last: bool) -> Result<Vec<char>, AllocError>
+    ensures { IfOk result (λ v. v.items ≡ translated_to last Newlines.Universal characters.now) }
 {
     let mut out = Vec::new(alloc);
     let mut held = false;
@@ -80,21 +86,22 @@ fn universal(alloc: Global, characters: &[char]) -> Result<Vec<char>, AllocError
         pass(&mut out, held, *character)?;
         held = is_cr(*character);
     }
-    release(&mut out, held)?;
+    release(&mut out, releases(last, held))?;
     Ok(out)
 }
 
-/// The newline rule: what is read of a whole list of characters, by the `newline` argument of Python's `open`. The
-/// `Err` means out of memory.
+/// The newline rule: what is read of a list of characters, by the `newline` argument of Python's `open`; `last` says that none come
+/// after them. The `Err` means out of memory.
 pub fn translate(
     alloc: Global,
     rule: Newlines,
     characters: &[char],
+    last: bool,
 ) -> Result<Vec<char>, AllocError>
-    ensures { IfOk result (λ v. v.items ≡ translated rule characters.now) }
+    ensures { IfOk result (λ v. v.items ≡ translated_to last rule characters.now) }
 {
     match rule {
-        Newlines::Universal => universal(alloc, characters),
+        Newlines::Universal => universal(alloc, characters, last),
         Newlines::Passthrough | Newlines::Lf | Newlines::Cr | Newlines::Crlf => {
             Vec::from_slice(alloc, characters)
         }

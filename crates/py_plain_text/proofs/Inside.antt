@@ -17,7 +17,7 @@ use Rattle.py_plain.specs.Items.{Item, Walk, Ending, AtEnd, FirstItem, Given, Re
 use Rattle.py_plain.specs.NewlineRule.{ends_held, translated}
 use Rattle.py_plain.specs.Alone.{DecodesAlone}
 use Rattle.py_plain.proofs.Items.{each_alone}
-use Rattle.py_plain.proofs.Walks.{plain-given}
+use Rattle.py_plain.proofs.Walks.{decoding-given}
 use Rattle.py_plain_text.specs.TextFile.{TextFile, clean_at}
 use Rattle.py_plain_text.specs.Rest.{Rest, text_rest}
 use Rattle.py_plain_text.specs.Cookie.{Cookie, flags_of, order_of}
@@ -62,7 +62,7 @@ pub record Begins (file : TextFile) (place : ℕ) (item : Item) (items : List It
 begins_by : (file : TextFile) → reads_texts file.settings.handler ≡ true → (place : ℕ) (item : Item) (items : List Item) (ending : Ending) → place < len file.bytes → Walks file place (item ∷ items) ending → (first : FirstItem) → first_item file.settings.encoding (treat_of file) true file.place.order place (drop place file.bytes) ≡ first → Begins file place item items ending
 begins_by file reads place item items ending inside walks (Given characters used) is =
     let nature : IsItem (len (drop place file.bytes)) characters used = first_is_item file.settings.handler file.settings.encoding reads file.place.order place (drop place file.bytes) characters used is in
-    let whole : from_byte file place ≡ onto_walk file.place.order place (Given characters used) (from_byte file (place + used)) = plain-given file.settings.encoding (treat_of file) file.place.order file.bytes place characters used inside nature.some is in
+    let whole : from_byte file place ≡ onto_walk file.place.order place (Given characters used) (from_byte file (place + used)) = decoding-given file.settings.encoding (treat_of file) true file.place.order file.bytes place characters used inside nature.some is in
     let read : Item = record { start = place; length = used; order = file.place.order; characters = characters } in
     let all : read ∷ (from_byte file (place + used)).items ≡ item ∷ items = sym (ap (λ (w : Walk). w.items) whole) ∙ walks.items_are in
     let same : read ≡ item = cc in
