@@ -12,3 +12,4 @@ pub mod Fitting
 pub mod Sought
 pub mod Orders
 pub mod Least
+pub mod Surely

@@ -1,5 +1,5 @@
 -- The plain text of the program, as a text of the definitions, and how its calls answer.
-use Rattle.std.specs.Prelude.{◌≡◌, ℕ, ◌+◌, ◌≤◌, ◌⊎◌, true, false, IsTrue, List, ⊤, Option, Some, None, option_map, Result, Ok, Err}
+use Rattle.std.specs.Prelude.{◌≡◌, ℕ, ◌+◌, ◌≤◌, ◌⊎◌, Bool, true, false, IsTrue, List, length, ⊤, Option, Some, None, option_map, Result, Ok, Err}
 use Rattle.py_flat.specs.declared.fault.IoFault.{IoFault}
 use Rattle.py_flat.specs.declared.fault.IoFault.TheVariants as fault
 use Rattle.py_flat.specs.declared.life.Life.TheVariants as life
@@ -8,10 +8,11 @@ use Rattle.py_flat.specs.Calls.{FileReply, Text, Count, Done, Refused}
 use Rattle.py_plain_text.specs.declared.plain_place.PlainSettings.{PlainSettings}
 use Rattle.py_plain_text.specs.declared.plain_place.PlainFront.{PlainFront}
 use Rattle.py_plain_text.specs.declared.plain_place.PlainPlace.{PlainPlace}
+use Rattle.py_plain_text.specs.declared.plain_changes.PlainChanges.{PlainChanges}
 use Rattle.py_plain.specs.Units.{Unknown}
 use Rattle.py_plain_text.specs.TextFile.{Front, TextPlace, TextSettings, TextFile, clean_at}
-use Rattle.py_plain_text.specs.Rest.{Rest, text_rest}
-use Rattle.py_plain_text.specs.TextCalls.{TextFileCall}
+use Rattle.py_plain_text.specs.Rest.{Rest, rest_to, text_rest}
+use Rattle.py_plain_text.specs.TextCalls.{TextFileCall, Changes}
 use Rattle.py_plain_text.specs.TextExact.{exact}
 use Rattle.py_plain_text.specs.TextAllowed.{does_work}
 use Rattle.py_plain_text.specs.TextRefusals.{write_refusal}
@@ -59,9 +60,19 @@ plain_at bytes settings place = record {
 abbrev pub plain_text : List ℕ → PlainSettings → TextFile
 plain_text bytes settings = plain_at bytes settings (clean_at 0 Unknown)
 
--- what is left of some bytes from a place on
-abbrev pub rest_at : List ℕ → PlainSettings → PlainPlace → Rest
-rest_at bytes settings place = text_rest (plain_at bytes settings (place_shown place))
+-- settings that a plain text is given
+abbrev pub changes_shown : PlainChanges → Changes
+changes_shown changes = record {
+  encoding = changes.encoding;
+  handler = changes.handler;
+  newline = changes.newline;
+  line_buffering = changes.line_buffering;
+  write_through = changes.write_through;
+}
+
+-- what is left of some bytes from a place on; `last` says that none come behind them
+abbrev pub rest_at : (last : Bool) → List ℕ → PlainSettings → PlainPlace → Rest
+rest_at last bytes settings place = rest_to last (plain_at bytes settings (place_shown place))
 
 -- what would be left if nothing had been taken
 abbrev pub whole_rest : List ℕ → PlainSettings → PlainPlace → Rest
@@ -71,6 +82,18 @@ whole_rest bytes settings place = text_rest (plain_at bytes settings (record (pl
 abbrev pub LiesWithin : ℕ → Option PlainFront → Type 0
 LiesWithin size None = ⊤
 LiesWithin size (Some front) = front.start + front.length ≤ size
+
+-- a place fits some bytes: its front lies within them, and no more characters are taken than there are; one that isn't dirty
+-- stands at a byte
+pub record PlaceFits (bytes : List ℕ) (settings : PlainSettings) (place : PlainPlace) : Type 0 where
+  pub clean : place.dirty ≡ false → (place.front ≡ None) × (place.taken ≡ 0)
+  pub within : LiesWithin (length bytes) place.front
+  pub taken : place.taken ≤ length (whole_rest bytes settings place).characters
+
+-- a live text at a place that fits the bytes, and none exactly where it doesn't
+abbrev pub IsTextAt : List ℕ → PlainSettings → PlainPlace → Option TextFile → Type 0
+IsTextAt bytes settings place None = PlaceFits bytes settings place → ⊥
+IsTextAt bytes settings place (Some text) = PlaceFits bytes settings place × (text ≡ plain_at bytes settings (place_shown place))
 
 -- what a call that reads answered
 abbrev pub text_reply : Result (List ℕ) IoFault → FileReply

@@ -1,17 +1,20 @@
 -- What the fields of the program's plain text show.
-use Rattle.std.specs.Prelude.{◌≡◌, ◌≤◌, false, length, None, if◌then◌else◌}
+use Rattle.std.specs.Prelude.{if◌then◌else◌}
 use Rattle.py_flat.specs.declared.life.Life.TheVariants as life
 use Rattle.py_plain_text.specs.declared.plain_text.PlainText.TheInside.{Inside}
-use Rattle.py_plain_text.specs.TextFile.{TextFile}
-use Rattle.py_plain_text.specs.PlainSteps.{plain_at, place_shown, whole_rest, LiesWithin}
+use Rattle.py_plain_text.specs.TextFile.{TextSettings, TextFile}
+use Rattle.py_plain_text.specs.PlainSteps.{settings_shown, plain_at, place_shown, PlaceFits}
+
+-- all settings of a plain text
+abbrev pub all_settings : Inside → TextSettings
+all_settings text =
+    record (settings_shown text.settings) { line_buffering = text.line_buffering; write_through = text.write_through }
 
 -- the text that the fields of a plain text stand for
 abbrev pub shown : Inside → TextFile
 shown text =
-    record (plain_at text.bytes.items text.settings (place_shown text.place)) { life = if text.closed then life.Closed else life.Live }
+    record (plain_at text.bytes.items text.settings (place_shown text.place)) { settings = all_settings text; life = if text.closed then life.Closed else life.Live }
 
--- a front lies within the bytes, and no more characters are taken than there are; a text that isn't dirty stands at a byte
-pub record IsPlaced (text : Inside) : Type 0 where
-  pub clean : text.place.dirty ≡ false → (text.place.front ≡ None) × (text.place.taken ≡ 0)
-  pub within : LiesWithin (length text.bytes.items) text.place.front
-  pub taken : text.place.taken ≤ length (whole_rest text.bytes.items text.settings text.place).characters
+-- a plain text stands in a place that fits its bytes
+abbrev pub IsPlaced : Inside → Type 0
+IsPlaced text = PlaceFits text.bytes.items text.settings text.place

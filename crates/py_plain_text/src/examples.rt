@@ -8,6 +8,7 @@ ghost use Rattle.py_plain.specs.declared.newlines.Newlines.TheVariants as newlin
 ghost use Rattle.py_plain_text.specs.TextCalls.{Read, ReadLine, WriteText, SeekText, Tell, Reconfigure, SetChunkSize, Flush, Close, Detach, ChunkSize, Readable, Writable, Seekable, Closed, Encoding, Errors, OtherKind};
 ghost use Rattle.py_plain.specs.Units.{Unknown};
 ghost use Rattle.py_plain_text.specs.TextFile.{clean_at};
+ghost use Rattle.py_plain_text.specs.Rest.{rest_to};
 ghost use Rattle.py_plain_text.specs.Cookie.{boundary_cookie, built};
 ghost use Rattle.py_plain_text.specs.Telling.{placed};
 ghost use Rattle.py_plain_text.specs.TextRefusals.{refusal};
@@ -33,6 +34,19 @@ pub fn cookies_tell_where_a_text_stands()
     ensures past_a_cut_sequence { replies_of (text_reader Utf8 Replace newline.Universal (0x61 ∷ 0xE2 ∷ 0x82 ∷ [])) (Read (Some 2) ∷ Tell ∷ Read None ∷ []) ≡ Text (0x61 ∷ 0xFFFD ∷ []) ∷ Cookie (cookie_at 3) ∷ Text [] ∷ [] }
     ensures past_a_pair { replies_of (text_reader Utf8 Strict newline.Universal (codes "a\r\nb")) (Read (Some 2) ∷ Tell ∷ []) ≡ Text (codes "a\n") ∷ Cookie (cookie_at 3) ∷ [] }
     ensures between_a_pair { replies_of (text_reader Utf8 Strict newline.Passthrough (codes "a\r\nb")) (Read (Some 2) ∷ Tell ∷ SeekText (cookie_at 2) (pos 0) ∷ Read None ∷ []) ≡ Text (codes "a\r") ∷ Cookie (cookie_at 2) ∷ Cookie (cookie_at 2) ∷ Text (codes "\nb") ∷ [] }
+{}
+
+/// Where more bytes may come, a sequence that the end cuts and a CR there give nothing yet; a range that no more bytes make a
+/// character of is refused already.
+#[tactic(auto, unfolding(py_plain::specs::Utf8::lead, py_plain::specs::Utf8::is_within))]
+pub fn what_more_bytes_may_change_is_not_left_yet()
+    ensures held { (rest_to false (text_reader Utf8 Strict newline.Universal (0x61 ∷ 0x0D ∷ []))).characters ≡ codes "a" }
+    ensures released { (rest_to true (text_reader Utf8 Strict newline.Universal (0x61 ∷ 0x0D ∷ []))).characters ≡ codes "a\n" }
+    ensures passed { (rest_to false (text_reader Utf8 Strict newline.Cr (0x61 ∷ 0x0D ∷ []))).characters ≡ codes "a\r" }
+    ensures cut { rest_to false (text_reader Utf8 Strict newline.Universal (0xE2 ∷ 0x82 ∷ [])) ≡ record { characters = []; refusal = None } }
+    ensures cut_for_good { rest_to true (text_reader Utf8 Strict newline.Universal (0xE2 ∷ 0x82 ∷ [])) ≡ record { characters = []; refusal = Some (0, 2) } }
+    ensures refused { rest_to false (text_reader Utf8 Strict newline.Universal (0xFF ∷ 0x41 ∷ [])) ≡ record { characters = []; refusal = Some (0, 1) } }
+    ensures refused_for_good { rest_to true (text_reader Utf8 Strict newline.Universal (0xFF ∷ 0x41 ∷ [])) ≡ record { characters = []; refusal = Some (0, 1) } }
 {}
 
 /// A refused range refuses the answer that would have to pass it, and takes nothing from the text.

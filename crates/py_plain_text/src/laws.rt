@@ -2,11 +2,11 @@ ghost use Rattle.std.specs.Prelude.{◌≡◌, ◌≤◌, ℕ, Bool, true, false
 ghost use Rattle.std.specs.List.{Contains};
 ghost use Rattle.py_flat.specs.declared.life.Life.TheVariants as life;
 ghost use Rattle.py_flat.specs.Calls.{FileReply, Cookie};
-ghost use Rattle.py_flat.specs.BinaryStep.{is_live};
+ghost use Rattle.py_flat.specs.BinaryStep.{is_live, IsFrontOf};
 ghost use Rattle.py_plain.specs.Units.{Order, Unknown};
 ghost use Rattle.py_plain.specs.Handlers.{reads_texts};
 ghost use Rattle.py_plain_text.specs.TextFile.{TextFile, clean_at};
-ghost use Rattle.py_plain_text.specs.Rest.{text_rest};
+ghost use Rattle.py_plain_text.specs.Rest.{rest_to, text_rest, LiesInBytes, with_more};
 ghost use Rattle.py_plain_text.specs.TextCalls.{TextFileCall, SeekText};
 ghost use Rattle.py_plain_text.specs.TextExact.{exact};
 ghost use Rattle.py_plain_text.specs.TextAllowed.{TextFileStep};
@@ -85,4 +85,15 @@ pub fn calls_leave_texts_where_cookies_tell()
     ensures step { (before : TextFile) (call : TextFileCall) (reply : FileReply) (waited faulted : Bool) (after : TextFile) → StandsInText before
         → TextFileStep before call reply waited faulted after → is_live after.life ≡ true → StandsInText after }
     ensures runs { (file : TextFile) (calls : List TextFileCall) → StandsInText file → StandsInText (text_after file calls) }
+{}
+
+/// What is surely left of a text that stands within its bytes is left whatever bytes come behind them, by each of the five handlers of
+/// texts that are read: its characters are a front of those that are left then, and the range that it refuses is refused then.
+///
+/// It does nothing: what it ensures is a law of the definitions.
+pub fn what_is_surely_left_stays()
+    ensures characters { (file : TextFile) (more : List ℕ) (last : Bool) → reads_texts file.settings.handler ≡ true → LiesInBytes file
+        → IsFrontOf (rest_to false file).characters (rest_to last (with_more file more)).characters }
+    ensures refusal { (file : TextFile) (more : List ℕ) (last : Bool) → reads_texts file.settings.handler ≡ true → LiesInBytes file
+        → (range : ℕ × ℕ) → (rest_to false file).refusal ≡ Some range → (rest_to last (with_more file more)).refusal ≡ Some range }
 {}

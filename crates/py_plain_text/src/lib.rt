@@ -7,6 +7,7 @@
 
 mod examples;
 mod laws;
+mod plain_changes;
 mod plain_place;
 mod plain_text;
 mod plain_write;
@@ -19,13 +20,15 @@ pub use examples::{
     runs_are_refused_by_their_places_in_the_text, settings_are_changed_where_a_text_is_clean,
     text_seeks_are_tried_in_order, texts_are_read_by_their_lines,
     texts_are_written_where_they_stand, texts_refuse_by_life_and_ability,
+    what_more_bytes_may_change_is_not_left_yet,
 };
 pub use laws::{
     a_text_is_sought_back_to_where_it_told, built_cookies_are_parsed,
     calls_leave_texts_where_cookies_tell, plain_steps, told_boundaries_give_the_rest,
-    told_places_give_the_rest,
+    told_places_give_the_rest, what_is_surely_left_stays,
 };
-pub use plain_place::PlainSettings;
+pub use plain_changes::PlainChanges;
+pub use plain_place::{PlainFront, PlainPlace, PlainSettings, left};
 pub use plain_text::PlainText;
 pub use plain_write::{laid, written};
 pub use text_cookie::TextIOCookie;

@@ -1,14 +1,16 @@
 ghost use Rattle.std.specs.Prelude.{◌≡◌, ◌+◌, ◌^◌, ◌<◌, ◌≤◌, false, length, take, IfOk, IfErr, OnOk};
-ghost use Rattle.py_plain_text.specs.PlainSteps.{plain_text, text_reply, done_reply, IsAccepted, IsUnread, IsAnswer, IsWritten, IsUnwritten, PlainStep, PlainAnswer, count_reply};
+ghost use Rattle.py_plain_text.specs.PlainSteps.{plain_text, place_shown, changes_shown, IsTextAt, text_reply, done_reply, IsAccepted, IsUnread, IsAnswer, IsWritten, IsUnwritten, PlainStep, PlainAnswer, count_reply};
 ghost use Rattle.py_flat.specs.Bytes.{first_of};
 ghost use Rattle.py_plain_text.specs.Rest.{text_rest};
 ghost use Rattle.py_plain_text.specs.TextStep.{asks_past, asks_any, range_refusal, after_taking, at_the_end};
-ghost use Rattle.py_plain_text.specs.TextCalls.{Read, ReadLine, WriteText, Close};
+ghost use Rattle.py_plain_text.specs.TextCalls.{Read, ReadLine, WriteText, Reconfigure, Close};
+ghost use Rattle.py_plain_text.specs.TextRefusals.{changes_refusal};
 ghost use Rattle.py_plain_text.specs.TextExact.{exact};
 
-use crate::PlainSettings;
-use crate::plain_place::{PlainPlace, left};
+use crate::plain_changes::fits_both;
+use crate::plain_place::{fits, left};
 use crate::plain_write::{laid, written};
+use crate::{PlainChanges, PlainPlace, PlainSettings};
 use py_flat::{Chars, IoFault, Life};
 use py_plain::{Decoded, encode, first_line};
 use std::alloc::{AllocError, Global};
@@ -24,6 +26,8 @@ const GREATEST_PLACE: usize = 9_223_372_036_854_775_807;
 pub struct PlainText {
     bytes: Vec<u8>,
     settings: PlainSettings,
+    line_buffering: bool,
+    write_through: bool,
     place: PlainPlace,
     closed: bool,
 }
@@ -123,9 +127,44 @@ impl PlainText {
         PlainText {
             bytes,
             settings,
+            line_buffering: false,
+            write_through: false,
             place: PlainPlace::clean_at(0),
             closed: false,
         }
+    }
+
+    /// A text of these bytes at a place, live, in an encoding, with a handler and a newline rule. It can be read and written.
+    ///
+    /// `None` exactly where the place doesn't fit the bytes: its front doesn't lie within them, or more characters are taken than there
+    /// are, or it isn't dirty and has a front or characters that were taken. The `Err` means out of memory. A place whose byte lies past
+    /// the end of the bytes fits.
+    pub fn placed(
+        alloc: Global,
+        bytes: Vec<u8>,
+        settings: PlainSettings,
+        place: PlainPlace,
+    ) -> Result<Option<Self>, AllocError>
+        ensures { IfOk result (IsTextAt bytes.items settings place) }
+    {
+        if !fits(alloc, settings, &bytes, &place)? {
+            return Ok(None);
+        }
+        Ok(Some(PlainText {
+            bytes,
+            settings,
+            line_buffering: false,
+            write_through: false,
+            place,
+            closed: false,
+        }))
+    }
+
+    /// Where the text stands.
+    pub fn place(&self) -> PlainPlace
+        ensures { place_shown result ≡ self.now.place }
+    {
+        self.place
     }
 
     /// What is left of the text: the characters up to the end or a refused range, and that range in bytes from the
@@ -140,7 +179,7 @@ impl PlainText {
         if self.closed {
             return Err(IoFault::Closed);
         }
-        match left(alloc, self.settings, &self.bytes, &self.place) {
+        match left(alloc, self.settings, &self.bytes, &self.place, true) {
             Ok(rest) => Ok(rest),
             Err(_) => Err(IoFault::NoMemory),
         }
@@ -246,6 +285,42 @@ impl PlainText {
         self.bytes = laid;
         self.place.at += bytes.len();
         Ok(text.len())
+    }
+
+    /// What refuses new settings: that the text was read from, where they say how it is read; then the handler.
+    fn changes_fault(&self, changes: &PlainChanges) -> Option<IoFault>
+        ensures { result ≡ changes_refusal self.now (changes_shown changes.now) }
+    {
+        if changes.changes_reading() && self.place.dirty {
+            return Some(IoFault::SeekFirst);
+        }
+        match changes.handler {
+            Some(handler) if !fits_both(handler) => Some(IoFault::UnknownHandler),
+            _ => None,
+        }
+    }
+
+    /// Gives the text other settings; those that aren't given stay. From its place on it is read and written by them.
+    ///
+    /// `Closed` where the text is closed; `SeekFirst` where it was read from and the encoding, the handler or the newline rule is given;
+    /// `UnknownHandler` where the handler isn't one of texts that are read and written: the text is then as it was.
+    pub fn reconfigure(&mut self, changes: PlainChanges) -> Result<(), IoFault>
+        ensures { (done_reply result, self.new) ≡ exact self.old (Reconfigure (changes_shown changes)) }
+    {
+        if self.closed {
+            return Err(IoFault::Closed);
+        }
+        if let Some(fault) = self.changes_fault(&changes) {
+            return Err(fault);
+        }
+        self.settings = PlainSettings {
+            encoding: changes.encoding.unwrap_or(self.settings.encoding),
+            handler: changes.handler.unwrap_or(self.settings.handler),
+            newline: changes.newline.unwrap_or(self.settings.newline),
+        };
+        self.line_buffering = changes.line_buffering.unwrap_or(self.line_buffering);
+        self.write_through = changes.write_through.unwrap_or(self.write_through);
+        Ok(())
     }
 
     /// What became of the text: it is live, or closed.
