@@ -132,7 +132,7 @@ impl Codec {
         bytes: &[u8],
         from: usize,
     ) -> Result<(String, Option<Refusal>), AllocError> {
-        let plain = py_plain::decode(alloc, self.encoding, self.handler, bytes, from)?;
+        let plain = py_plain::decode(alloc, self.encoding, self.handler, bytes, from, true)?;
         let text: String = plain.characters.iter().collect(alloc)?;
         Ok((text, plain.refusal.map(Refusal::from_places)))
     }
