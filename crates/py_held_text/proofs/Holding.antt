@@ -29,7 +29,7 @@ use Rattle.py_flat.specs.declared.fault.IoFault.{IoFault}
 use Rattle.py_held_text.specs.declared.held_stop.HeldStop.{HeldStop}
 use Rattle.py_held_text.specs.Decodes.{Decodes, IsDrained, RefusesNext, PartOutcome, DecodeOutcome}
 use Rattle.py_held_text.specs.Known.{KnownView, reading, IsPart}
-use Rattle.py_held_text.proofs.Decoded.{IsAll}
+use Rattle.py_held_text.proofs.Decoded.{IsAll, part-all, lacks-refused}
 use Rattle.py_held_text.proofs.Reading.{all-both, read-few}
 use Rattle.py_held_text.proofs.Walking.{Leaves, rest-none, rest-ending, split, passed, part-left, still, precedes}
 
@@ -128,6 +128,12 @@ whole-walk coder last bytes = walk_at coder.encoding (treatment coder.errors cod
 -- some items of them were decoded
 abbrev pub PartDecoded : Coder → Bool → (want : ℕ) → List ℕ → FrontDecoded → Type 0
 PartDecoded coder last want bytes decoded = IsPart want (whole-walk coder last bytes) (walk_here coder.encoding (treatment coder.errors coder.encoding) last bytes) decoded
+
+-- a range that refuses a front lies within its bytes
+pub refused-within : (coder : Coder) (last : Bool) (want : ℕ) (bytes : List ℕ) (decoded : FrontDecoded) (start end : ℕ) → PartDecoded coder last want bytes decoded → decoded.stop ≡ front.Refused start end → RangeIn 0 (len bytes) start end
+refused-within coder last want bytes decoded start end part is_refused =
+    let all = part-all want (whole-walk coder last bytes) _ decoded part (lacks-refused _ _ start end (sym part.stop ∙ is_refused)) in
+    range-in coder.encoding (treatment coder.errors coder.encoding) last Unknown 0 0 bytes start end (stop-range _ start end (sym all.stop ∙ is_refused))
 
 -- those items
 abbrev pub part-items : Coder → Bool → (want : ℕ) → List ℕ → List Item

@@ -1,7 +1,8 @@
-//! How far an answer may want the bytes in hand decoded. A line ends no further than behind the first LF or CR that its rule ends
+//! How far the bytes in hand are decoded for an answer. A line ends no further than behind the first LF or CR that its rule ends
 //! lines by, and a line of n characters in no more bytes than those have. That is a guess: an LF that no CR comes before, by the rule
 //! of CR LF, and one that a malformed sequence takes in end no line, and then more is wanted the next time; and where a malformed
-//! sequence of UTF-16 has an odd number of bytes the units behind it aren't seen.
+//! sequence of UTF-16 has an odd number of bytes the units behind it aren't seen. Where the line is short so are those behind it, as a
+//! rule, and so some of them are decoded with it.
 ghost use Rattle.std.specs.Prelude.{◌≤◌, length, IfSome};
 
 use crate::Wanted;
@@ -12,7 +13,10 @@ use py_plain::{Encoding, Newlines};
 /// The most bytes that a character has, in any encoding.
 const LONGEST: usize = 4;
 
-/// How many of some bytes an answer may want that wants so many characters.
+/// How many bytes are decoded at once for short lines.
+const SHARED: usize = 4096;
+
+/// How many of some bytes are decoded for an answer that wants so many characters.
 pub(crate) fn reach(
     encoding: Encoding,
     newline: Newlines,
@@ -27,7 +31,7 @@ pub(crate) fn reach(
         Wanted::Line(_) => {
             let near = window(bytes, want.saturating_mul(LONGEST));
             match behind_end(encoding, newline, near) {
-                Some(end) => end,
+                Some(end) => end.max(SHARED.min(bytes.len())),
                 None => bytes.len(),
             }
         }

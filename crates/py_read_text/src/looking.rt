@@ -43,7 +43,7 @@ fn stopped(
     }
 }
 
-/// Looks at what is in hand, whatever comes behind it; `None` where more has to come. It is decoded no further than the answer may want.
+/// Looks at what is in hand, whatever comes behind it; `None` where more has to come. It is decoded as far as the answer may want.
 pub(crate) fn look(
     held: &mut HeldText,
     alloc: Global,

@@ -224,6 +224,11 @@ session_held shows state appends size None is = is.0.held
 session_held shows state appends size (Some raw) is =
     subst (λ (own : TextState). IsHeld (seen shows own appends size (Some raw))) (sym is.0) (gone_held shows state.text.buffer.can state.text.settings appends size raw is.1)
 
+-- what holds of every session that wasn't detached
+pub session_whole : {R : Type 0} (shows : R → Raw) (state : TextState) (appends : Bool) (size : ℕ) (raw : Option R) → IsSession shows state appends size raw → state.text.life ≢ life.Detached → IsTextSession (seen shows state appends size raw)
+session_whole shows state appends size None is kept = is.0
+session_whole shows state appends size (Some raw) is kept = absurd (kept (ap (λ (own : TextState). own.text.life) is.0))
+
 -- forgetting a wait leaves all that holds
 pub forgot : {R : Type 0} (shows : R → Raw) (before : TextState) (appends : Bool) (size : ℕ) (raw : Option R) → IsSession shows before appends size raw → IsSession shows (record before { short = false }) appends size raw
 forgot shows before appends size None is = (stayed before (record before { short = false }) refl is.0, record { appends_is = is.1.appends_is; size_is = is.1.size_is })

@@ -18,7 +18,7 @@ ghost use Rattle.py_buffered_core.specs.Buffered.{as_buffer};
 ghost use Rattle.py_textio.specs.Handing.{HasRoomBehind};
 ghost use Rattle.py_text_session.specs.Handing.{place_handed, unwritten_reply, AnswersCall};
 ghost use Rattle.py_text_session.specs.Opening.{TextOutcome};
-ghost use Rattle.py_text_session.specs.Session.{IsHeld};
+ghost use Rattle.py_text_session.specs.Session.{IsHeld, IsTextSession};
 
 use crate::{TextLines, TextUnwritten};
 use py_buffered_core::Buffered;
@@ -265,6 +265,7 @@ impl<R: RawStream> TextSession<R> {
     pub fn life(&self) -> Life
         ensures life { result ≡ self.now.text.life }
         ensures holds { IsHeld self.now }
+        ensures attached { self.now.text.life ≢ Life.Detached → IsTextSession self.now }
     {
         self.text.life()
     }

@@ -1,33 +1,23 @@
 use Rattle.std.proofs.Common.{◌≡◌, ◌+◌, ◌-◌, ◌≤◌, List, ℕ, Result, Ok, Option, Some, None, true, length, take, drop, vec_len, vec_capacity, sym, ap, subst, ◌∙◌, arith}
 use Rattle.std.proofs.lemmas.List.{length-drop, length-take, drop-drop}
 use Rattle.py_flat.specs.declared.fault.IoFault.{IoFault}
-use Rattle.py_plain.specs.Handlers.{treatment}
-use Rattle.py_plain.specs.Units.{Unknown}
 use Rattle.py_held_text.specs.declared.held_stop.HeldStop.{HeldStop}
 use Rattle.py_held_text.specs.declared.held_stop.HeldStop.TheVariants as stop
 use Rattle.py_held_text.specs.Held.{HeldView, kept_of}
 use Rattle.py_held_text.specs.Decodes.{PartOutcome}
 use Rattle.py_held_text.proofs.Decoded.{part-all, lacks-drained, lacks-refused, lacks-none}
-use Rattle.py_held_text.proofs.Holding.{range-in, stop-range, held-by, whole-by, kept-whole, decodes-by, drained-by, refuses-by, whole-walk, all-of}
+use Rattle.py_held_text.proofs.Holding.{refused-within, held-by, whole-by, kept-whole, decodes-by, drained-by, refuses-by, all-of}
 use Rattle.py_held_text.proofs.held_text.HeldText.decode_part.Goals.{in-Refused, in-Drained+then-is_all, in-Drained+else-is_all, in-Wanted}
 use Rattle.py_held_text.proofs.held_text.HeldText.decode_part.Goals as goal
 
 pub overflow_add-result : goal.overflow_add-result
 overflow_add-result c =
-    let coder = c.self.inside.coder in
-    let bytes = take c.args.size c.behind-bytes.result.now in
-    let part = c.in_ok-front.ensures.part in
-    let all = part-all c.args.want (whole-walk coder c.args.last bytes) _ c.in_ok-front.front part (lacks-refused _ _ c.in-Refused.start c.in-Refused.end (sym part.stop ∙ c.in-Refused.is)) in
-    let range = range-in coder.encoding (treatment coder.errors coder.encoding) c.args.last Unknown 0 0 bytes c.in-Refused.start c.in-Refused.end (stop-range _ c.in-Refused.start c.in-Refused.end (sym all.stop ∙ c.in-Refused.is)) in
+    let range = refused-within c.self.inside.coder c.args.last c.args.want (take c.args.size c.behind-bytes.result.now) c.in_ok-front.front c.in-Refused.start c.in-Refused.end c.in_ok-front.ensures.part c.in-Refused.is in
     omega (arith, range.0, range.1, c.self.invariant.1.within, c.self.invariant.1.near, length-take c.args.size c.behind-bytes.result.now, ap length c.behind-bytes.ensures, length-drop c.self.inside.decoded c.deref.result.now, c.deref.ensures.len)
 
 pub overflow_add-result-in-Refused : goal.overflow_add-result-in-Refused
 overflow_add-result-in-Refused c =
-    let coder = c.self.inside.coder in
-    let bytes = take c.args.size c.behind-bytes.result.now in
-    let part = c.in_ok-front.ensures.part in
-    let all = part-all c.args.want (whole-walk coder c.args.last bytes) _ c.in_ok-front.front part (lacks-refused _ _ c.in-Refused.start c.in-Refused.end (sym part.stop ∙ c.in-Refused.is)) in
-    let range = range-in coder.encoding (treatment coder.errors coder.encoding) c.args.last Unknown 0 0 bytes c.in-Refused.start c.in-Refused.end (stop-range _ c.in-Refused.start c.in-Refused.end (sym all.stop ∙ c.in-Refused.is)) in
+    let range = refused-within c.self.inside.coder c.args.last c.args.want (take c.args.size c.behind-bytes.result.now) c.in_ok-front.front c.in-Refused.start c.in-Refused.end c.in_ok-front.ensures.part c.in-Refused.is in
     omega (arith, range.0, range.1, c.self.invariant.1.within, c.self.invariant.1.near, length-take c.args.size c.behind-bytes.result.now, ap length c.behind-bytes.ensures, length-drop c.self.inside.decoded c.deref.result.now, c.deref.ensures.len)
 
 pub returns : goal.returns
