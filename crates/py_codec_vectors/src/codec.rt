@@ -24,7 +24,7 @@ pub(crate) struct Refusal {
 
 impl Refusal {
     /// What the plain slow program refuses.
-    fn from_places((start, end): (usize, usize)) -> Self {
+    pub(crate) fn from_places((start, end): (usize, usize)) -> Self {
         Refusal {
             start: start as u64,
             end: end as u64,
@@ -74,7 +74,7 @@ impl Expected<'_> {
     }
 
     /// Whether this is what the plain slow program gives and refuses.
-    fn is_plain(self, output: &[u8], refused: Option<Refusal>) -> bool {
+    pub(crate) fn is_plain(self, output: &[u8], refused: Option<Refusal>) -> bool {
         match self {
             Expected::All(expected, _) => output == expected && refused.is_none(),
             Expected::Refused(refusal, before) => {

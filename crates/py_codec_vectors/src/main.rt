@@ -1,6 +1,6 @@
 //! Compares the codecs and the plain slow program with what they must answer, and prints how many answers agree.
 //!
-//! The words are the paths of five tables. They are data of this program: four have what another program answers, CPython's
+//! The words are the paths of six tables. They are data of this program: five have what another program answers, CPython's
 //! codecs and its texts, and vectors/make_vectors made them (docs/CODECS.md); the last is text, and its head says how a row is
 //! written.
 #![tactic(auto)]
@@ -11,6 +11,7 @@ mod cuts;
 mod fronts;
 mod padding;
 mod pieces;
+mod pieces_of_texts;
 mod records;
 mod rows;
 mod tables;
@@ -59,7 +60,15 @@ fn compare_rows(rt: &HostRuntime, path: &str) -> io::Result<()> {
 
 fn main(rt: HostRuntime) -> io::Result<()> {
     let mut words = env::args(&rt)?.skip(1);
-    let (Some(decodings), Some(surrogates), Some(encodings), Some(texts), Some(rows)) = (
+    let (
+        Some(decodings),
+        Some(surrogates),
+        Some(encodings),
+        Some(texts),
+        Some(pieces),
+        Some(rows),
+    ) = (
+        words.next(),
         words.next(),
         words.next(),
         words.next(),
@@ -67,13 +76,19 @@ fn main(rt: HostRuntime) -> io::Result<()> {
         words.next(),
     ) else {
         return rt.println(
-            "usage: py_codec_vectors <decodings> <surrogates> <encodings> <texts> <rows>",
+            "usage: py_codec_vectors <decodings> <surrogates> <encodings> <texts> <pieces> <rows>",
         );
     };
     compare_table(&rt, "decoding", Table::Decodings, decodings.as_str())?;
     compare_table(&rt, "surrogates", Table::Surrogates, surrogates.as_str())?;
     compare_table(&rt, "encoding", Table::Encodings, encodings.as_str())?;
     compare_table(&rt, "texts", Table::Texts, texts.as_str())?;
+    compare_table(
+        &rt,
+        "pieces of texts",
+        Table::PiecesOfTexts,
+        pieces.as_str(),
+    )?;
     compare_rows(&rt, rows.as_str())?;
     print(&rt, "blocks", &blocks::compare(rt.alloc())?)?;
     print(&rt, "long texts", &blocks::compare_long(rt.alloc())?)

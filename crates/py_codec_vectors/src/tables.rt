@@ -1,6 +1,7 @@
 use crate::codec::{Codec, Expected};
 use crate::cuts;
 use crate::padding::{pad, padding};
+use crate::pieces_of_texts::try_pieces;
 use crate::records::Records;
 use crate::tally::Tally;
 use crate::texts::try_text;
@@ -15,6 +16,7 @@ pub(crate) enum Table {
     Surrogates,
     Encodings,
     Texts,
+    PiecesOfTexts,
 }
 
 /// Whether an input after n characters of ASCII gives these and what is replaced: so runs of every length that
@@ -157,6 +159,7 @@ pub(crate) fn compare(alloc: Global, table: Table, bytes: &[u8]) -> Result<Tally
             Table::Surrogates => try_surrogates(alloc, &mut records, &mut tally),
             Table::Encodings => try_encoding(alloc, &mut records, padding(index), &mut tally),
             Table::Texts => try_text(alloc, &mut records, &mut tally),
+            Table::PiecesOfTexts => try_pieces(alloc, &mut records, &mut tally),
         };
         match tried {
             Ok(()) => tally.place_record(alloc, index)?,
