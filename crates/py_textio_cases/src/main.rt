@@ -1,6 +1,6 @@
 //! Reads texts beside the plain slow text, in every encoding, by every handler and newline rule, in chunks and through buffers of
 //! many sizes, over raw streams that move a byte at a time, wait before any transfer or fail at any call, by one call over and over;
-//! and by all calls in turn, through a reader, through a stream that is written too, and in memory. It prints how many answers came,
+//! and by all calls in turn, through a reader, through a stream that is written too, and in memory; and long texts by lines. It prints how many answers came,
 //! and ends at the first that differs. Before that it runs the cases of the files that are its words. `stdout` has what must come.
 //!
 //! Nothing here is clever: it is code to be read and trusted, and only its safety is proved.
@@ -15,13 +15,14 @@ use std::{env, fs};
 use sweep::{Sweep, read_each};
 
 /// The sweeps, in the order in which they are made.
-const SWEEPS: [Sweep; 6] = [
+const SWEEPS: [Sweep; 7] = [
     Sweep::Sizes,
     Sweep::Waits,
     Sweep::Faults,
     Sweep::Mixed,
     Sweep::ReadWrite,
     Sweep::Memory,
+    Sweep::Long,
 ];
 
 /// Runs the cases of a file, and prints each line and what came.

@@ -27,3 +27,6 @@ pub(crate) const SAMPLES: [&[u8]; 12] = [
     b"\x00\xD8a\x00\r\x00\x00\xDC\n\x00x",
     b"a line that is longer than each chunk\r\nand one more\n",
 ];
+
+/// What stands before a sample each time, where it is read over and over.
+pub(crate) const FILLER: [u8; 250] = [b'x'; 250];

@@ -3,7 +3,7 @@ ghost use Rattle.std.specs.Prelude.{IfOk};
 ghost use Rattle.py_raw_memory.specs.MemRaw.{shown as raw_shown};
 ghost use Rattle.py_stream.specs.Opening.{StandsAtStart};
 
-use crate::samples::{CALLS, SAMPLES};
+use crate::samples::{CALLS, FILLER, SAMPLES};
 use anyhow::{Result, anyhow};
 use py_buffered::{BufferedRandom, BufferedReader};
 use py_flat::IoFault;
@@ -36,6 +36,9 @@ pub(crate) enum Sweep {
     ReadWrite,
     /// The same, of a stream in memory, which never blocks.
     Memory,
+    /// Lines, of each sample over and over, behind some ASCII each time, in one chunk: of more bytes than are decoded at once for a
+    /// short line.
+    Long,
 }
 
 /// Which calls are made on a text.
@@ -88,6 +91,7 @@ impl Sweep {
             Sweep::Mixed => "mixed",
             Sweep::ReadWrite => "mixed, through a stream that is written too",
             Sweep::Memory => "mixed, in memory",
+            Sweep::Long => "long",
         }
     }
 
@@ -103,7 +107,21 @@ impl Sweep {
             Sweep::Waits => 108,
             Sweep::Faults => 72,
             Sweep::Mixed | Sweep::ReadWrite | Sweep::Memory => 54,
+            Sweep::Long => 1,
         }
+    }
+
+    /// The bytes that are read of a sample.
+    fn bytes_of(self, alloc: Global, sample: &[u8]) -> Result<Vec<u8>, AllocError> {
+        if self != Sweep::Long {
+            return sample.to_vec(alloc);
+        }
+        let mut bytes = Vec::new(alloc);
+        for _ in 0..ROUNDS {
+            bytes.extend_from_slice(&FILLER)?;
+            bytes.extend_from_slice(sample)?;
+        }
+        Ok(bytes)
     }
 
     /// A run by its number.
@@ -136,6 +154,13 @@ impl Sweep {
                 fault: None,
                 chunk_size: 1 + number % 9,
                 buffer_size: 1 + number % 5,
+            },
+            Sweep::Long => Run {
+                step: 8192,
+                wait: None,
+                fault: None,
+                chunk_size: 8192,
+                buffer_size: 8192,
             },
         }
     }
@@ -233,7 +258,7 @@ fn read_over(
             let mut text = TextIOWrapper::new(alloc, buffer, coder, own)?;
             read_beside(alloc, settings, bytes, &mut text, calls, counts)
         }
-        Sweep::Sizes | Sweep::Waits | Sweep::Faults | Sweep::Mixed => {
+        Sweep::Sizes | Sweep::Waits | Sweep::Faults | Sweep::Mixed | Sweep::Long => {
             let raw = raw_for(alloc, bytes, RawFlags::able(true, false, true), run)?;
             let buffer = BufferedReader::new(alloc, raw, run.buffer_size)?;
             let mut text = TextIOWrapper::new(alloc, buffer, coder, own)?;
@@ -256,6 +281,10 @@ fn read_run(
         let calls = Calls::EachFrom(number / 9);
         return read_over(alloc, settings, which, bytes, run, calls, counts);
     }
+    if which == Sweep::Long {
+        let calls = Calls::Same(Asking::Line);
+        return read_over(alloc, settings, which, bytes, run, calls, counts);
+    }
     for asking in CALLS {
         let calls = Calls::Same(asking);
         read_over(alloc, settings, which, bytes, run, calls, counts)?;
@@ -270,10 +299,11 @@ fn read_all(
     which: Sweep,
     counts: &mut Counts,
 ) -> Result<()> {
-    for bytes in SAMPLES {
+    for sample in SAMPLES {
+        let bytes = which.bytes_of(alloc, sample)?;
         for number in 0..which.runs() {
-            if let Err(error) = read_run(alloc, settings, which, bytes, number, counts) {
-                return Err(anyhow!("{settings:?} {which:?} {number} {bytes:?}: {error}"));
+            if let Err(error) = read_run(alloc, settings, which, &bytes, number, counts) {
+                return Err(anyhow!("{settings:?} {which:?} {number} {sample:?}: {error}"));
             }
         }
     }
