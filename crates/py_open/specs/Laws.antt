@@ -25,7 +25,7 @@ use Rattle.py_calls.specs.Calls.{text_call, file_call, said}
 use Rattle.py_read_text.specs.TextState as state
 use Rattle.py_read_text.specs.TextState.{TextState}
 use Rattle.py_read_text.specs.Answers as over
-use Rattle.py_read_text.specs.Answers.{has_line_end}
+use Rattle.py_read_text.specs.Owing.{has_line_end}
 use Rattle.py_text_session.specs.Session.{OwesNothing}
 use Rattle.py_binary.specs.Binary.{detached_fault}
 use Rattle.py_open.specs.Session.{SessionFile, OfText, OfBinary, SessionView, TextSession, BinarySession, raw_of, file_seen, owed_of, flat_bytes, SaysOrStarves, flag_seen, Answers}

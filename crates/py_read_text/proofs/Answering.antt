@@ -24,10 +24,11 @@ use Rattle.py_held_text.specs.Decodes.{IsDrained}
 use Rattle.py_held_text.specs.Finding.{answer_of, enough, enough_before}
 use Rattle.py_read_text.specs.declared.read_text.Answer.TheVariants as answer
 use Rattle.py_read_text.specs.Waiting.{bytes_between, ShowsAll}
-use Rattle.py_read_text.specs.Answers.{IsReplyTo, PlaceMoves}
+use Rattle.py_read_text.specs.Answers.{IsReplyTo, PlaceMoves, BlamesTaken, TextBlames}
 use Rattle.py_read_text.specs.Knowing.{TextView, place_of, shown_file, from_place, KnowsTold, IsText}
-use Rattle.py_read_text.specs.Reading.{call_of, size_of, asks_all, ComesLast, RefusesAt, IsAtEnd, HoldsNothing, GiveOutcome, GiveAllOutcome, Finishes}
+use Rattle.py_read_text.specs.Reading.{call_of, size_of, asks_all, ComesLast, RefusesAt, RangeInHand, IsAtEnd, HoldsNothing, GiveOutcome, GiveAllOutcome, Finishes}
 use Rattle.py_read_text.proofs.Following.{all_none, so_far_empty}
+use Rattle.py_read_text.proofs.Ranges.{asks_past_range}
 use Rattle.py_read_text.proofs.Knowing.{knows_given, without_front}
 use Rattle.py_read_text.proofs.Enough.{is_enough, is_short, is_before}
 use Rattle.py_read_text.proofs.Steps.{Tied, step_enough, step_before, step_refuses, step_last, step_all, step_waits, step_unready, enough_sized, before_sized}
@@ -60,6 +61,10 @@ moves_short (Characters None) old new end cs fits taken = record { taken = taken
 moves_short (Characters (Some size)) old new end cs fits taken = record { taken = taken; within = within_limit (Some size) (length cs) fits }
 moves_short (Line limit) old new end cs fits taken = record { taken = taken; within = within_limit limit (length cs) fits }
 
+blames_none : (asked : Wanted) (cs : List ℕ) (place : TextPlace) (far : ℕ) → TextBlames (call_of asked) (Text cs) place far
+blames_none (Characters size) cs place far = tt
+blames_none (Line limit) cs place far = tt
+
 -- what a giving does to the model's file
 gave_file : (old new : TextView) (count : ℕ) (asks : Bool) (text : String Global) → GiveOutcome old count asks (Ok text) new → shown_file new ≡ after_taking (shown_file old) count asks
 gave_file old new count asks text gave = ap shown_file gave.1
@@ -82,6 +87,7 @@ whole_of old new asked count text sized within fits gave step =
       shorts = refl;
       sound = refl;
       place = moves_whole asked (place_of old) (place_of new) old.buffer.place (text_of text) sized (subst (λ (n : ℕ). IfSome (size_of asked) (λ most. n ≤ most)) (sym size) fits) (gave_place old new count (asks_any (size_of asked)) text within gave);
+      blames = blames_none asked (text_of text) (place_of old) old.buffer.place;
       told = λ told. subst (λ (cs : List ℕ). TextFileStep (shown_file old) (call_of asked) (Text cs) false false (shown_file new)) (sym gave.0)
           (subst (TextFileStep (shown_file old) (call_of asked) (Text (take count old.held.known)) false false) (sym (gave_file old new count (asks_any (size_of asked)) text gave)) (step told));
       hides = λ waits. absurd (cc);
@@ -106,15 +112,20 @@ stays_refused (Characters None) start end place far = refl
 stays_refused (Characters (Some size)) start end place far = refl
 stays_refused (Line limit) start end place far = refl
 
+blames_taken : (asked : Wanted) (start end : ℕ) (place : TextPlace) (far : ℕ) → BlamesTaken (size_of asked) place start end far → TextBlames (call_of asked) (Refused (fault.UnicodeDecodeError start end)) place far
+blames_taken (Characters size) start end place far taken = taken
+blames_taken (Line limit) start end place far taken = taken
+
 -- a refused range that the answer would pass
-pub finishes_refused : (text : TextView) (asked : Wanted) (start end : ℕ) → WhereShown text.buffer (Tied text) → enough_before asked text.held.newline text.held.known ≡ None → WhereShown text.buffer (ComesLast text (Some (start, end))) → Finishes text asked (Err (fault.UnicodeDecodeError start end)) text
-finishes_refused text asked start end tied is last = record {
+pub finishes_refused : (text : TextView) (asked : Wanted) (start end : ℕ) → Holds text → WhereShown text.buffer (Tied text) → RangeInHand text start end → enough_before asked text.held.newline text.held.known ≡ None → WhereShown text.buffer (ComesLast text (Some (start, end))) → Finishes text asked (Err (fault.UnicodeDecodeError start end)) text
+finishes_refused text asked start end holds tied range is last = record {
   buffer = refl;
   settings = refl;
   answer = refuses_text asked start end;
   shorts = refl;
   sound = refl;
   place = stays_refused asked start end (place_of text) text.buffer.place;
+  blames = blames_taken asked start end (place_of text) text.buffer.place (record { asks = asks_past_range asked text.held.newline text.held.known is; forth = omega (arith, holds.forth, range.forth); some = range.some; within = omega (arith, holds.stands, range.within) });
   told = λ told. step_refuses text asked start end (tied told) (last told) is;
   hides = λ waits. absurd (cc);
 }
@@ -165,6 +176,7 @@ finishes_all old new text tied is none whole end gave =
       shorts = refl;
       sound = refl;
       place = record { clean = ap place_of gave.1; forth = forth };
+      blames = tt;
       told = λ told.
           let knows = (tied told).knows in
           let bytes : List ℕ = (flat_of old.buffer).bytes in
@@ -207,6 +219,10 @@ unready_text : (asked : Wanted) (writes : Bool) → IsReplyTo writes (call_of as
 unready_text (Characters size) writes = tt
 unready_text (Line limit) writes = tt
 
+blames_unready : (asked : Wanted) (place : TextPlace) (far : ℕ) → TextBlames (call_of asked) NotReady place far
+blames_unready (Characters size) place far = tt
+blames_unready (Line limit) place far = tt
+
 stays_unready : (asked : Wanted) (place : TextPlace) (far : ℕ) → PlaceMoves (call_of asked) true NotReady place far place
 stays_unready (Characters None) place far = refl
 stays_unready (Characters (Some size)) place far = refl
@@ -222,6 +238,7 @@ finishes_unready text asked live reads is none drained holds =
       shorts = refl;
       sound = refl;
       place = stays_unready asked (place_of text) text.buffer.place;
+      blames = blames_unready asked (place_of text) text.buffer.place;
       told = λ told. step_unready text asked (tied told);
       hides = λ waits. (holds, λ told. shows_all text (omega (arith, is.forth, is.stands)) none drained (tied told).knows);
     }
@@ -240,6 +257,7 @@ finishes_short old new asked count text live reads is short drained holds size s
       shorts = λ empty. some (sym all ∙ empty);
       sound = refl;
       place = moves_short asked (place_of old) (place_of new) old.buffer.place (text_of text) (subst (λ (cs : List ℕ). IfSome (size_of asked) (λ most. length cs ≤ most)) (sym all) (is_short asked old.held.newline known short).size) (gave_place old new count true text (omega (arith, size)) gave);
+      blames = blames_none asked (text_of text) (place_of old) old.buffer.place;
       told = λ told. subst (λ (cs : List ℕ). TextFileStep (shown_file old) (call_of asked) (Text cs) true false (shown_file new)) (sym all)
           (subst (TextFileStep (shown_file old) (call_of asked) (Text known) true false) (sym (gave_file old new count true text gave ∙ ap (λ (n : ℕ). after_taking (shown_file old) n true) size)) (step_waits old asked (tied told) short some));
       hides = λ waits. subst (λ (view : TextView). HoldsNothing view.buffer × WhereShown old.buffer (ShowsAll (shown_file view) view.buffer.place)) (sym gave.1)

@@ -182,6 +182,7 @@ flush_so old after result live is answers =
       shorts = whole_reply result;
       nothing = λ none. absurd (cc);
       moves = record { settings = refl; life_is = flush_life (size_shown old.buffer.buffering) old.buffer.can.writable result old.buffer.life after.life answers.moves.life_is; place = refl; written = tt };
+      blames = tt;
       joined = joined_of (with_buffer old after) (text_flushed old.buffer after old.held old.at old.taken old.settings result live answers is);
       owes = owes_none (over_of old) Flush (over_of (with_buffer old after)) tt (passes_behind old.buffer.raw after.raw old.buffer.owed.bytes after.owed.bytes [] (front_passes old.buffer after answers.owes));
       lays = λ told. lays_owed (over_of old) [] after.raw.bytes (joined_of old is) (lays_alone old.buffer after is.owes answers.lays told);
@@ -203,6 +204,7 @@ flush_so old after result live is answers =
       passes = flush_passes old after result answers;
       by_own = stands_still old after (flush_place (size_shown old.buffer.buffering) result old.buffer.life after.life old.buffer.place after.place live answers.moves.life_is answers.moves.place);
       kept = tt;
+      holds = tt;
     }
 
 pub flush_answers : (now old : TextView) (after : Buffer) (result : Result (Unit {0}) IoFault) → old ≡ now → now.buffer.life ≡ life.Live → Holds old → AnswersAsBuffer old.buffer binary.Flush (done_reply result) after → Answers (state_of now false) Flush (done_reply result) (state_of (record old { buffer = after }) (says_wait (done_reply result)))
@@ -313,6 +315,7 @@ close_so old after result live is answers =
       shorts = whole_reply result;
       nothing = λ none. absurd (cc);
       moves = record { settings = refl; life_is = close_life (size_shown old.buffer.buffering) old.buffer.can.writable result old.buffer.life after.life answers.moves.life_is; place = refl; written = tt };
+      blames = tt;
       joined = joined_of (with_buffer old after) (text_closed old.buffer after old.held old.at old.taken old.settings result live answers is);
       owes = owes_none (over_of old) Close (over_of (with_buffer old after)) tt (passes_behind old.buffer.raw after.raw old.buffer.owed.bytes after.owed.bytes [] (front_passes old.buffer after answers.owes));
       lays = λ told. lays_owed (over_of old) [] after.raw.bytes (joined_of old is) (lays_alone old.buffer after is.owes answers.lays told);
@@ -334,6 +337,7 @@ close_so old after result live is answers =
       passes = close_passes old after result live answers;
       by_own = stands_still old after (close_place (size_shown old.buffer.buffering) result old.buffer.life after.life old.buffer.place after.place live answers.moves.life_is answers.moves.place);
       kept = tt;
+      holds = tt;
     }
 
 pub close_answers : (now old : TextView) (after : Buffer) (result : Result (Unit {0}) IoFault) → old ≡ now → now.buffer.life ≡ life.Live → Holds old → AnswersAsBuffer old.buffer binary.Close (done_reply result) after → Answers (state_of now false) Close (done_reply result) (state_of (record old { buffer = after }) (says_wait (done_reply result)))

@@ -26,6 +26,7 @@ use Rattle.py_read_text.proofs.Ahead.{needs_chunk}
 use Rattle.py_read_text.proofs.Owing.{passes_none}
 use Rattle.py_read_text.proofs.Fronts.{lays_none}
 use Rattle.py_read_text.proofs.Answering.{last_at_range}
+use Rattle.py_read_text.proofs.Ranges.{in_hand}
 use Rattle.py_read_text.proofs.Knowing.{ends_behind}
 use Rattle.py_read_text.proofs.Holding.{text_follows}
 
@@ -58,14 +59,14 @@ begins text asked far = record { place = record { at = refl; taken = refl; dirty
 pub gathered_look : (text : TextView) (asked : Wanted) (stop : Gathered) → HeldAt (Coming false) asked text.held stop → IsTold stop → GatheredAt text asked stop
 gathered_look text asked (gathered.Enough front) at told = at
 gathered_look text asked (gathered.Before front) at told = (at.0, at.1, λ shown. (at.2.0, last_at_range text (Coming false) at.2.0 at.2.1 (λ last. absurd (cc))))
-gathered_look text asked (gathered.Refuses start end) at told = (at.0, λ shown. last_at_range text (Coming false) (start, end) at.1 (λ last. absurd (cc)))
+gathered_look text asked (gathered.Refuses start end) at told = (at.0, λ shown. last_at_range text (Coming false) (start, end) at.1 (λ last. absurd (cc)), in_hand text false start end at.1)
 gathered_look text asked gathered.Ends at told = absurd told
 gathered_look text asked gathered.Waits at told = absurd told
 
 pub gathered_end : (text : TextView) (asked : Wanted) (stop : Gathered) → HeldAt (Coming true) asked text.held stop → IsReady (Ok stop) → IsAtEnd text.buffer → GatheredAt text asked stop
 gathered_end text asked (gathered.Enough front) at ready end = at
 gathered_end text asked (gathered.Before front) at ready end = (at.0, at.1, λ shown. (at.2.0, last_at_range text (Coming true) at.2.0 at.2.1 (λ last. end shown)))
-gathered_end text asked (gathered.Refuses start end_of) at ready end = (at.0, λ shown. last_at_range text (Coming true) (start, end_of) at.1 (λ last. end shown))
+gathered_end text asked (gathered.Refuses start end_of) at ready end = (at.0, λ shown. last_at_range text (Coming true) (start, end_of) at.1 (λ last. end shown), in_hand text true start end_of at.1)
 gathered_end text asked gathered.Ends at ready end = (at.0, at.1, end)
 gathered_end text asked gathered.Waits at ready end = absurd ready
 
@@ -114,17 +115,17 @@ waited old mid new asked reads at outcome =
     let kept = subst (λ (held : HeldView). HeldAt (Coming false) asked held gathered.Waits) (sym outcome.0.held) (held_room asked mid.held new.held.room at) in
     (reads_on old.buffer mid.buffer new.buffer true false reads outcome.0.reads, (kept.0, kept.1, outcome.1))
 
-in_hand : (fits : Bool) (size : ℕ) → fits ≡ true → (if fits then Some size else None) ≢ None
-in_hand true size is none = absurd (cc)
-in_hand false size is none = absurd (cc)
+has_size : (fits : Bool) (size : ℕ) → fits ≡ true → (if fits then Some size else None) ≢ None
+has_size true size is none = absurd (cc)
+has_size false size is none = absurd (cc)
 
 -- a call that asks for no character has enough
 none_enough : (asked : Wanted) (rule : _) (known : List ℕ) → asks_none asked ≡ true → enough asked rule known ≢ None
-none_enough (Characters (Some zero)) rule known none is = in_hand (nat_le 0 (length known)) 0 (le-leb 0 (length known) (omega arith)) is
+none_enough (Characters (Some zero)) rule known none is = has_size (nat_le 0 (length known)) 0 (le-leb 0 (length known) (omega arith)) is
 none_enough (Line (Some zero)) rule known none is =
     let size : ℕ = length (first_line (line_end rule) (Some 0) (known ++ lf ∷ [])) in
     let least : size ≤ length known = omega (arith, length-take 0 (line_after (line_end rule) false (known ++ lf ∷ []))) in
-    in_hand (nat_le size (length known)) size (le-leb size (length known) least) is
+    has_size (nat_le size (length known)) size (le-leb size (length known) least) is
 none_enough (Characters None) rule known none is = absurd (cc)
 none_enough (Characters (Some (suc size))) rule known none is = absurd (cc)
 none_enough (Line None) rule known none is = absurd (cc)

@@ -11,6 +11,7 @@ mod Ahead
 mod Gathering
 mod Chunks
 mod Stopping
+mod Ranges
 mod Beginning
 pub mod Placing
 mod Changing

@@ -77,7 +77,7 @@ has_own before call some = by_owed before.owed some (given_by before.settings ca
 -- Where what is owed stands.
 
 pub joined_of : (text : TextView) → IsText text.buffer text.held text.at text.taken text.settings → IsJoined (over_of text)
-joined_of text is = record { below = is.owes; stands = by_place is.ahead; behind = omega (arith, is.forth, is.stands); far = omega (arith, is.far) }
+joined_of text is = record { below = is.owes; stands = by_place is.ahead; behind = omega (arith, is.forth, is.stands); far = omega (arith, is.far); few = omega (arith, is.few, is.forth, is.stands) }
   where
     by_place : (text.at ≡ text.buffer.place) ⊎ ((text.buffer.owed.bytes ≡ []) × (text.buffer.can.readable ≡ true)) → ((text.buffer.owed.bytes ≡ []) × (◌≡◌ {A = List ℕ} [] [])) ⊎ (text.at ≡ text.buffer.place + 0)
     by_place (inl there) = inr (omega (arith, there))

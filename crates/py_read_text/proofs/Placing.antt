@@ -191,6 +191,7 @@ pub record IsAhead (buffer : Buffer) (at : ℕ) : Type 0 where
   pub kept : buffer.exported ≡ false
   pub none : buffer.owed.bytes ≡ []
   pub within : at ≤ greatest_place
+  pub apart : at ≡ buffer.place → ⊥
 
 leaves_flat : (before after : Buffer) (at : ℕ) (reply : FileReply) → IsAhead before at → after.life ≡ (if says_fault reply then life.Failed else before.life) → AnswersAsBuffer before (Seek (pos at) (pos 0)) reply after → LeavesFlat before (says_fault reply) after
 leaves_flat before after at reply is current answers = record {
@@ -216,7 +217,7 @@ pub returned : (old new : TextView) (result : Result ℕ IoFault) → IsAhead ol
 returned old new (Ok place) is at answers =
     let goes : Some (0 + old.at) ≡ Some place = answers.moves.place.1 in
     let there : 0 + old.at ≡ place = cc in
-    (omega (arith, at, there, answers.moves.place.0), leaves_flat old.buffer new.buffer old.at (Place place) is answers.moves.life_is answers)
+    (omega (arith, at, there, answers.moves.place.0), leaves_flat old.buffer new.buffer old.at (Place place) is answers.moves.life_is answers, λ stood. absurd (is.apart stood))
 returned old new (Err fault.RawFault) is at answers = (leaves_flat old.buffer new.buffer old.at (Refused fault.RawFault) is answers.moves.life_is answers, answers.moves.place)
 returned old new (Err fault.NoMemory) is at answers = (leaves_flat old.buffer new.buffer old.at (Refused fault.NoMemory) is answers.moves.life_is answers, seek_place (size_shown old.buffer.buffering) old.at fault.NoMemory old.buffer.life new.buffer.life old.buffer.place new.buffer.place is.live answers.moves.life_is answers.moves.place)
 returned old new (Err (fault.WouldBlock taken)) is at answers = absurd (never_waits new.buffer.short answers.shorts (answers.unwaited refl refl is.none))
@@ -234,7 +235,7 @@ is_ahead buffer held at taken settings live writes moves differs is = by_place i
   where
     by_place : (at ≡ buffer.place) ⊎ ((buffer.owed.bytes ≡ []) × (buffer.can.readable ≡ true)) → IsAhead buffer at
     by_place (inl there) = absurd (differs (is.stands ∙ sym there))
-    by_place (inr none) = record { live = live; moves = (moves none.1 writes).0; appends = (moves none.1 writes).1; kept = is.kept; none = none.0; within = omega (arith, is.forth, is.stands, is.far) }
+    by_place (inr none) = record { live = live; moves = (moves none.1 writes).0; appends = (moves none.1 writes).1; kept = is.kept; none = none.0; within = omega (arith, is.forth, is.stands, is.far); apart = λ stood. differs (is.stands ∙ sym stood) }
 
 -- a text whose buffer went back to its place
 pub text_returned : (before after : Buffer) (held new : HeldView) (at taken place : ℕ) (settings : TextSettings) → IsAhead before at → AnswersAsBuffer before (Seek (pos at) (pos 0)) (Place place) after → taken ≡ 0 → new ≡ cleared held at new.room → IsText before held at taken settings → IsText after new at taken settings

@@ -26,7 +26,7 @@ use Rattle.py_read_text.specs.Waiting.{ShowsAll}
 use Rattle.py_read_text.specs.Ahead.{AsksAsNeeded}
 use Rattle.py_read_text.specs.TextState.{TextState}
 use Rattle.py_read_text.specs.Owing.{IsJoined, given_by, WriteMovesBy, Starves, Closes}
-use Rattle.py_read_text.specs.Answers.{calls_nothing, gives_text, IsReplyTo, IsComplete, IsShort, PlaceMoves, WriteMoves, LifeMoves, settings_after, closes_again, WantsMemory, ClosesWithRaw, TextPasses, MovesByOwn, TextKeeps, Answers}
+use Rattle.py_read_text.specs.Answers.{calls_nothing, gives_text, IsReplyTo, IsComplete, IsShort, PlaceMoves, WriteMoves, LifeMoves, settings_after, closes_again, WantsMemory, ClosesWithRaw, TextPasses, MovesByOwn, TextKeeps, TextHolds, TextBlames, Answers}
 use Rattle.py_read_text.specs.Knowing.{TextView, place_of, over_of, state_of, shown_file}
 use Rattle.py_read_text.specs.Reading.{call_of, asks_none, Reads, KeepsPlace, HoldsNothing, gathers_wait, GatherOutcome, GathersAsNeeded, Finishes, OnlyWhereWaits, WaitsOrLacks, reply_of, waited_in}
 use Rattle.py_read_text.proofs.Steps.{accepts}
@@ -97,6 +97,10 @@ moves_any : (asked : Wanted) (before after : TextOver Buffer) → MovesByOwn (ca
 moves_any (Characters size) before after = tt
 moves_any (Line limit) before after = tt
 
+holds_any : (asked : Wanted) (before : TextOver Buffer) (reply : FileReply) (after : TextOver Buffer) → TextHolds before (call_of asked) reply after
+holds_any (Characters size) before reply after = tt
+holds_any (Line limit) before reply after = tt
+
 keeps_any : (asked : Wanted) (reply : FileReply) (after : TextState) → TextKeeps (call_of asked) reply after
 keeps_any (Characters size) reply after = tt
 keeps_any (Line limit) reply after = tt
@@ -116,6 +120,7 @@ pub record Parts (old : TextView) (asked : Wanted) (waited short : Bool) (reply 
   pub answer : (writes : Bool) → IsReplyTo writes (call_of asked) reply
   pub shorts : IsShort reply short
   pub place : PlaceMoves (call_of asked) short reply (place_of old) new.buffer.place (place_of new)
+  pub blames : TextBlames (call_of asked) reply (place_of old) new.buffer.place
   pub joined : IsJoined (over_of new)
   pub needs : GathersAsNeeded old asked new
   pub told : WhereShown old.buffer (TextFileStep (shown_file old) (call_of asked) reply short (says_fault reply) (shown_file new))
@@ -164,6 +169,7 @@ answers old new asked waited short reply live can parts =
       answer = λ accepts. parts.answer old.buffer.can.writable;
       complete = λ accepts calm sound. completes asked reply short old.buffer new.buffer old.buffer.can.writable (parts.answer old.buffer.can.writable) parts.shorts causes_wait parts.reads.fault calm sound;
       wants = wants_none asked reply old.buffer;
+      blames = parts.blames;
       joined = parts.joined;
       owes = owes_none (over_of old) (call_of asked) (over_of new) (writes_no_place asked old.at new.at) (passes_behind old.buffer.raw new.buffer.raw old.buffer.owed.bytes new.buffer.owed.bytes [] parts.reads.passes);
       lays = λ told. lays_owed (over_of old) (given_by old.settings (call_of asked)) new.buffer.raw.bytes parts.was (parts.reads.lays parts.was.below told);
@@ -182,6 +188,7 @@ answers old new asked waited short reply live can parts =
       passes = passes_none (state_of old false) asked reply (state_of new short);
       by_own = moves_any asked (over_of old) (over_of new);
       kept = keeps_any asked reply (state_of new short);
+      holds = holds_any asked (over_of old) reply (over_of new);
     }
 
 -- A call that stopped before anything was answered.
@@ -194,6 +201,14 @@ stops_place : (asked : Wanted) (why : IoFault) (old new : TextView) (far : ℕ) 
 stops_place (Characters None) why old new far place = same_place old new place
 stops_place (Characters (Some size)) why old new far place = same_place old new place
 stops_place (Line limit) why old new far place = same_place old new place
+
+fault_blames : (asked : Wanted) (place : TextPlace) (far : ℕ) → TextBlames (call_of asked) (Refused fault.RawFault) place far
+fault_blames (Characters size) place far = tt
+fault_blames (Line limit) place far = tt
+
+starved_blames : (asked : Wanted) (place : TextPlace) (far : ℕ) → TextBlames (call_of asked) (Refused fault.NoMemory) place far
+starved_blames (Characters size) place far = tt
+starved_blames (Line limit) place far = tt
 
 faults_reply : (asked : Wanted) (writes : Bool) → IsReplyTo writes (call_of asked) (Refused fault.RawFault)
 faults_reply (Characters size) writes = tt
@@ -224,6 +239,7 @@ stopped old new asked fault.RawFault live can was joined place nothing needs out
       answer = faults_reply asked;
       shorts = refl;
       place = stops_place asked fault.RawFault old new new.buffer.place place;
+      blames = fault_blames asked (place_of old) new.buffer.place;
       joined = joined;
       needs = needs;
       told = λ told. faults_step (shown_file old) (shown_file new) asked live can reads.life_is (reads.bytes told) reads.keeps.can place.settings;
@@ -241,6 +257,7 @@ stopped old new asked fault.NoMemory live can was joined place nothing needs out
       answer = starves_reply asked;
       shorts = refl;
       place = stops_place asked fault.NoMemory old new new.buffer.place place;
+      blames = starved_blames asked (place_of old) new.buffer.place;
       joined = joined;
       needs = needs;
       told = λ told. starves_step (shown_file old) (shown_file new) asked live can (same_file old new (reads.bytes told) reads.keeps.can reads.life_is place);
@@ -280,6 +297,8 @@ finished old mid new asked stop result live can was joined place nothing needs o
       shorts = done.shorts;
       place = subst (λ (own : TextPlace). PlaceMoves (call_of asked) (waited_in result) (reply_of result) own new.buffer.place (place_of new)) (same_place old mid place)
           (subst (λ (buffer : Buffer). PlaceMoves (call_of asked) (waited_in result) (reply_of result) (place_of mid) buffer.place (place_of new)) (sym done.buffer) done.place);
+      blames = subst (λ (own : TextPlace). TextBlames (call_of asked) (reply_of result) own new.buffer.place) (same_place old mid place)
+          (subst (λ (buffer : Buffer). TextBlames (call_of asked) (reply_of result) (place_of mid) buffer.place) (sym done.buffer) done.blames);
       joined = joined;
       needs = λ told. subst (λ (buffer : Buffer). AsksAsNeeded (shown_file old) (call_of asked) old.settings.chunk_size (max old.buffer.place old.at) buffer.place) (sym done.buffer) (needs told);
       told = λ told. subst (λ (faulted : Bool). TextFileStep (shown_file old) (call_of asked) (reply_of result) (waited_in result) faulted (shown_file new)) (sym done.sound)

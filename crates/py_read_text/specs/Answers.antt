@@ -1,12 +1,10 @@
 -- The one clause of all calls of a text: what a call may answer and leave, over any buffered stream.
-use Rattle.std.specs.Prelude.{◌≡◌, ◌≢◌, ℕ, zero, ◌+◌, ◌<◌, ◌≤◌, ◌⊎◌, ◌||◌, nat_eq, Bool, true, false, IsTrue, List, [], ◌∷◌, ◌++◌, length, Option, Some, None, String, Result, Ok, Err}
-use Rattle.std.specs.List.{list_any}
+use Rattle.std.specs.Prelude.{◌≡◌, ◌≢◌, ℕ, zero, ◌+◌, ◌<◌, ◌≤◌, ◌⊎◌, Bool, true, false, IsTrue, List, [], ◌∷◌, ◌++◌, length, Option, Some, None, String, Result, Ok, Err}
 use Rattle.std.specs.declared.alloc.Global.{Global}
 use Rattle.py_flat.specs.declared.fault.IoFault.{IoFault}
 use Rattle.py_flat.specs.declared.fault.IoFault.TheVariants as fault
 use Rattle.py_flat.specs.declared.life.Life.{Life}
 use Rattle.py_flat.specs.declared.life.Life.TheVariants as life
-use Rattle.py_flat.specs.Lines.{lf, cr}
 use Rattle.py_flat.specs.Calls as binary
 use Rattle.py_flat.specs.Calls.{FileReply, Text, Count, Done, NotReady, Unwritten, Refused}
 use Rattle.py_flat.specs.Causes.{rose, counted}
@@ -27,7 +25,7 @@ use Rattle.py_stream.specs.Buffer.{Buffer, WhereShown, KeepsBuffer, IsClosedWith
 use Rattle.py_read_text.specs.TextState.{TextState, file_of}
 use Rattle.py_read_text.specs.Waiting.{ShowsAll}
 use Rattle.py_read_text.specs.Ahead.{ReadsNoFurther}
-use Rattle.py_read_text.specs.Owing.{all_owed, behind_own, IsJoined, given_by, OwesOn, LaysOwed, Starves, StopsOwing, KeepsOpen, StaysWhileOwing, may_close, Closes}
+use Rattle.py_read_text.specs.Owing.{all_owed, behind_own, IsJoined, given_by, OwesOn, LaysOwed, Starves, has_line_end, flushes_behind, StopsOwing, KeepsOpen, StaysWhileOwing, may_close, Closes}
 
 -- what the answer of a reading says, in the model's words
 abbrev pub text_reply : Result (Option (String Global)) IoFault → FileReply
@@ -164,6 +162,21 @@ pub record TextMoves (before : TextState) (call : TextFileCall) (reply : FileRep
   pub place : PlaceMoves call after.short reply before.text.place after.text.buffer.place after.text.place
   pub written : WriteMoves before.text.settings call reply before.text.place after.text.place
 
+-- What a refused range says.
+
+-- a refused range: some character was asked for; and it has bytes, from the byte of the text place on, that were taken from the buffer
+pub record BlamesTaken (size : Option ℕ) (place : TextPlace) (start end far : ℕ) : Type 0 where
+  pub asks : asks_any size ≡ true
+  pub forth : place.at ≤ start
+  pub some : start < end
+  pub within : end ≤ far
+
+-- which range a reading may refuse, whether the raw tells or not, by where the buffer stands then
+abbrev pub TextBlames : TextFileCall → FileReply → TextPlace → (far : ℕ) → Type 0
+TextBlames (Read size) (Refused (fault.UnicodeDecodeError start end)) place far = BlamesTaken size place start end far
+TextBlames (ReadLine limit) (Refused (fault.UnicodeDecodeError start end)) place far = BlamesTaken limit place start end far
+TextBlames call reply place far = Unit {0}
+
 -- The one clause of every call.
 
 -- whether a call closes a text that is closed: Python's `close` of a closed stream does nothing
@@ -225,10 +238,6 @@ pub record KeepsTied (before : TextState) (call : TextFileCall) (reply : FileRep
 
 -- What a text that is written keeps, and what it passes on.
 
--- whether a text has an end of a line, LF or CR: with line buffering its write is followed by a flush
-abbrev pub has_line_end : List ℕ → Bool
-has_line_end text = list_any (λ c. nat_eq c lf || nat_eq c cr) text
-
 -- nothing is owed any more, neither by the text nor by its buffer: so the raw's bytes are the flat ones, where it tells them
 pub record IsPassedOn (state : TextState) : Type 0 where
   pub own : state.text.owed ≡ []
@@ -261,6 +270,17 @@ abbrev pub TextKeeps : TextFileCall → FileReply → TextState → Type 0
 TextKeeps (WriteText text) (Count count) after = KeepsFew after
 TextKeeps call reply after = Unit {0}
 
+-- bytes that were given stay with the text, behind those that it owed; and a buffer that stood behind these is as it was
+pub record HoldsBack (before : TextOver Buffer) (given : List ℕ) (after : TextOver Buffer) : Type 0 where
+  pub own : after.owed ≡ before.owed ++ given
+  pub buffer : behind_own before ≡ before.place.at → after.buffer ≡ before.buffer
+
+-- an answered write hands on nothing that it needn't: without write through, where what the text owes and is given is less than a chunk,
+-- and no flush is to follow
+abbrev pub TextHolds : TextOver Buffer → TextFileCall → FileReply → TextOver Buffer → Type 0
+TextHolds before (WriteText text) (Count count) after = before.settings.write_through ≡ false → flushes_behind before.settings (WriteText text) ≡ false → length (before.owed ++ written_bytes before.settings text) < before.settings.chunk_size → HoldsBack before (written_bytes before.settings text) after
+TextHolds before call reply after = Unit {0}
+
 -- the raw of a live buffer stands where the buffer counts
 abbrev pub StandsWhileLive : Buffer → Type 0
 StandsWhileLive buffer = buffer.life ≡ life.Live → StandsAsCounted buffer
@@ -283,13 +303,17 @@ pub record Answers (before : TextState) (call : TextFileCall) (reply : FileReply
   pub nothing : calls_nothing call ≡ true → after.text.buffer ≡ before.text.buffer
   -- life, settings and place after the call
   pub moves : TextMoves before call reply after
-  -- what the buffer owes and what the text itself does stand one behind the other
+  -- which range may be refused
+  pub blames : TextBlames call reply before.text.place after.text.buffer.place
+  -- what the buffer owes and what the text itself does stand one behind the other, and how many characters were taken is bounded by where
+  -- the buffer stands
   pub joined : IsJoined after.text
   -- no byte is lost and none doubled: what is owed is what was and what the call gave, without what the raw answered for
   pub owes : OwesOn before.text call after.text
   -- told, the raw has a front then of what was owed and of what the call gave behind that, laid on where that begins, whatever it answers
   pub lays : LaysOwed before.text (all_owed before.text ++ given_by before.text.settings call) after.text
-  -- running out of memory fails a text only in a call that has bytes of its own to hand on, once some went on
+  -- running out of memory fails a text only in a call that has bytes of its own to hand on, once the raw took some and the buffer failed, or
+  -- where the buffer took all and was to be flushed behind them
   pub starves : Starves before.text call reply after.text
   -- which replies may come of a call that isn't refused
   pub answer : refusal (file_of before) call ≡ None → IsReplyTo before.text.buffer.can.writable call reply
@@ -325,3 +349,5 @@ pub record Answers (before : TextState) (call : TextFileCall) (reply : FileReply
   pub by_own : MovesByOwn call before.text after.text
   -- how little an answered write leaves with the text
   pub kept : TextKeeps call reply after
+  -- which answered writes hand on nothing
+  pub holds : TextHolds before.text call reply after.text

@@ -1,10 +1,12 @@
 -- What a text and its buffer owe, over any raw, and whether a call closes the raw.
-use Rattle.std.specs.Prelude.{◌≡◌, ◌≢◌, ◌⊎◌, ℕ, ◌+◌, ◌-◌, ◌<◌, ◌≤◌, Bool, true, false, IsTrue, List, [], ◌++◌, length, take, drop}
+use Rattle.std.specs.Prelude.{◌≡◌, ◌≢◌, ◌⊎◌, ℕ, ◌+◌, ◌*◌, ◌-◌, ◌<◌, ◌≤◌, ◌||◌, ◌&&◌, nat_eq, Bool, true, false, IsTrue, List, [], ◌++◌, length, take, drop}
+use Rattle.std.specs.List.{list_any}
 use Rattle.py_flat.specs.declared.fault.IoFault.TheVariants as fault
 use Rattle.py_flat.specs.declared.life.Life.{Life}
 use Rattle.py_flat.specs.declared.life.Life.TheVariants as life
 use Rattle.py_flat.specs.Bytes.{lay}
 use Rattle.py_flat.specs.Limits.{greatest_place}
+use Rattle.py_flat.specs.Lines.{lf, cr}
 use Rattle.py_flat.specs.Calls.{FileReply, Done, Refused}
 use Rattle.py_plain_text.specs.TextFile.{TextSettings}
 use Rattle.py_plain_text.specs.TextOver.{TextOver}
@@ -26,16 +28,18 @@ abbrev pub behind_own : TextOver Buffer → ℕ
 behind_own text = text.buffer.place + length text.owed
 
 -- what a buffer owes ends where it stands, and bytes that a text owes itself begin there; where any of both are owed the text stands
--- behind them. It stands nowhere further on, and that no further than a stream can
-pub record JoinsAt (buffer : Buffer) (own : List ℕ) (at : ℕ) : Type 0 where
+-- behind them. It stands nowhere further on, and that no further than a stream can. No more characters were taken since the byte of its
+-- place than six for each byte from there to where the buffer stands
+pub record JoinsAt (buffer : Buffer) (own : List ℕ) (at taken : ℕ) : Type 0 where
   pub below : OwesUpTo buffer.owed buffer.place
   pub stands : ((buffer.owed.bytes ≡ []) × (own ≡ [])) ⊎ (at ≡ buffer.place + length own)
   pub behind : at ≤ buffer.place + length own
   pub far : buffer.place + length own ≤ greatest_place
+  pub few : taken ≤ 6 * (buffer.place - at)
 
 -- what a text and its buffer owe stands in one piece
 abbrev pub IsJoined : TextOver Buffer → Type 0
-IsJoined text = JoinsAt text.buffer text.owed text.place.at
+IsJoined text = JoinsAt text.buffer text.owed text.place.at text.place.taken
 
 -- of bytes that were owed the first were passed on, exactly as many as the raw answered for, and the rest is owed
 pub record PassesOwed (before : Raw) (owed : List ℕ) (after : Raw) (left : List ℕ) : Type 0 where
@@ -90,10 +94,28 @@ stream_from text = record (stream_shown text.buffer) { place = own_from text }
 abbrev pub HasOwn : TextOver Buffer → TextFileCall → Type 0
 HasOwn before call = before.owed ++ given_by before.settings call ≢ []
 
--- bytes of the text's own went on: its buffer took some, so that what is left begins further on; or the buffer failed once the raw took
--- some, which answered for more than the buffer owed
-abbrev pub GaveOwn : TextOver Buffer → TextOver Buffer → Type 0
-GaveOwn before after = (own_from before < own_from after) ⊎ ((after.buffer.life ≡ life.Failed) × TookOwn (stream_from before) (stream_shown after.buffer))
+-- whether a text has an end of a line, LF or CR: with line buffering its write is followed by a flush
+abbrev pub has_line_end : List ℕ → Bool
+has_line_end text = list_any (λ c. nat_eq c lf || nat_eq c cr) text
+
+-- whether a call flushes the buffer behind what it gives
+abbrev pub flushes_behind : TextSettings → TextFileCall → Bool
+flushes_behind settings (WriteText text) = settings.line_buffering && has_line_end text
+flushes_behind settings call = false
+
+-- the buffer took some bytes of the text's own, and all of them: none is left with the text, and what would be begins further on
+pub record TookAllOwn (before after : TextOver Buffer) : Type 0 where
+  pub further : own_from before < own_from after
+  pub none : after.owed ≡ []
+
+-- the buffer failed once the raw took some bytes of the text's own, which answered for more than the buffer owed
+abbrev pub FailedWithOwn : TextOver Buffer → TextOver Buffer → Type 0
+FailedWithOwn before after = (after.buffer.life ≡ life.Failed) × TookOwn (stream_from before) (stream_shown after.buffer)
+
+-- bytes of the text's own went on: to a buffer that failed once the raw took some; or, in a call that flushes behind what it gives, the
+-- buffer took all
+abbrev pub GaveOwn : (flushes : Bool) → TextOver Buffer → TextOver Buffer → Type 0
+GaveOwn flushes before after = FailedWithOwn before after ⊎ ((flushes ≡ true) × TookAllOwn before after)
 
 -- life, settings and place stay
 pub record StaysAsItWas (before after : TextOver Buffer) : Type 0 where
@@ -101,10 +123,10 @@ pub record StaysAsItWas (before after : TextOver Buffer) : Type 0 where
   pub settings : after.settings ≡ before.settings
   pub place : after.place ≡ before.place
 
--- running out of memory fails a text only in a call that has bytes of its own to hand on, and only once some of them went on; else it
--- leaves the text as it was
+-- running out of memory fails a text only in a call that has bytes of its own to hand on, and only once the raw took some of them and the
+-- buffer failed, or where the buffer took all and was to be flushed behind them; else it leaves the text as it was
 abbrev pub Starves : TextOver Buffer → TextFileCall → FileReply → TextOver Buffer → Type 0
-Starves before call (Refused fault.NoMemory) after = StaysAsItWas before after ⊎ ((after.life ≡ life.Failed) × HasOwn before call × GaveOwn before after)
+Starves before call (Refused fault.NoMemory) after = StaysAsItWas before after ⊎ ((after.life ≡ life.Failed) × HasOwn before call × GaveOwn (flushes_behind before.settings call) before after)
 Starves before call reply after = Unit {0}
 
 -- A wait.

@@ -1,5 +1,5 @@
 -- How a text reads: the steps of a call.
-use Rattle.std.specs.Prelude.{◌≡◌, ℕ, zero, ◌+◌, ◌*◌, ◌≤◌, ◌≢◌, ◌⊎◌, ◌||◌, Bool, true, false, not, IsTrue, String, List, [], ◌++◌, length, take, drop, max, Option, Some, None, Result, Ok, Err, Vec, if◌then◌else◌, ◌-◌}
+use Rattle.std.specs.Prelude.{◌≡◌, ℕ, zero, ◌+◌, ◌*◌, ◌<◌, ◌≤◌, ◌≢◌, ◌⊎◌, ◌||◌, Bool, true, false, not, IsTrue, String, List, [], ◌++◌, length, take, drop, max, Option, Some, None, Result, Ok, Err, Vec, if◌then◌else◌, ◌-◌}
 use Rattle.std.specs.declared.alloc.Global.{Global}
 use Rattle.py_flat.specs.declared.fault.IoFault.{IoFault}
 use Rattle.py_flat.specs.declared.fault.IoFault.TheVariants as fault
@@ -39,7 +39,7 @@ use Rattle.py_read_text.specs.declared.read_text.Answer.TheVariants as answer
 use Rattle.py_read_text.specs.Waiting.{ShowsAll}
 use Rattle.py_read_text.specs.Ahead.{AsksAsNeeded}
 use Rattle.py_read_text.specs.Owing.{PassesOwed, LaysFront}
-use Rattle.py_read_text.specs.Answers.{SparesBytes, StandsWhileLive, IsReplyTo, IsShort, PlaceMoves}
+use Rattle.py_read_text.specs.Answers.{SparesBytes, StandsWhileLive, IsReplyTo, IsShort, PlaceMoves, TextBlames}
 
 -- the call that some wanted characters answer
 abbrev pub call_of : Wanted → TextFileCall
@@ -236,11 +236,17 @@ pub record ComesLast (text : TextView) (range : Option (ℕ × ℕ)) : Type 0 wh
   pub characters : (rest_of text).characters ≡ text.held.known
   pub refusal_is : (rest_of text).refusal ≡ range
 
+-- a refused range has bytes, none of which was used, that were taken from the buffer
+pub record RangeInHand (text : TextView) (start end : ℕ) : Type 0 where
+  pub forth : text.held.place ≤ start
+  pub some : start < end
+  pub within : end ≤ text.held.place + length text.held.bytes
+
 -- what is known of a text when a call stops gathering
 abbrev pub GatheredAt : TextView → Wanted → Gathered → Type 0
 GatheredAt text asked (gathered.Enough front) = (enough asked text.held.newline text.held.known ≡ Some front.chars) × held_front.IsFrontOf text.held.known front
 GatheredAt text asked (gathered.Before front) = (enough_before asked text.held.newline text.held.known ≡ Some front.chars) × held_front.IsFrontOf text.held.known front × WhereShown text.buffer ((range : ℕ × ℕ) × ComesLast text (Some range))
-GatheredAt text asked (gathered.Refuses start end) = (enough_before asked text.held.newline text.held.known ≡ None) × WhereShown text.buffer (ComesLast text (Some (start, end)))
+GatheredAt text asked (gathered.Refuses start end) = (enough_before asked text.held.newline text.held.known ≡ None) × WhereShown text.buffer (ComesLast text (Some (start, end))) × RangeInHand text start end
 GatheredAt text asked gathered.Ends = (text.held.bytes ≡ []) × (text.held.cr ≡ false) × IsAtEnd text.buffer
 GatheredAt text asked gathered.Waits = (enough asked text.held.newline text.held.known ≡ None) × IsDrained false text.held × HoldsNothing text.buffer
 
@@ -298,6 +304,7 @@ pub record Finishes (old : TextView) (asked : Wanted) (result : Result Answer Io
   pub shorts : IsShort (reply_of result) (waited_in result)
   pub sound : says_fault (reply_of result) ≡ false
   pub place : PlaceMoves (call_of asked) (waited_in result) (reply_of result) (place_of old) old.buffer.place (place_of new)
+  pub blames : TextBlames (call_of asked) (reply_of result) (place_of old) old.buffer.place
   pub told : WhereShown old.buffer (TextFileStep (shown_file old) (call_of asked) (reply_of result) (waited_in result) false (shown_file new))
   pub hides : IsTrue (waited_in result) → HoldsNothing new.buffer × WhereShown old.buffer (ShowsAll (shown_file new) new.buffer.place)
 

@@ -20,7 +20,7 @@ use Rattle.py_raw.specs.RawStream.{Raw}
 use Rattle.py_stream.specs.Writing.{OwesUpTo}
 use Rattle.py_stream.specs.Buffer.{Buffer, WhereShown, flat_of}
 use Rattle.py_read_text.specs.TextState.{TextState, file_of}
-use Rattle.py_read_text.specs.Owing.{all_owed, JoinsAt}
+use Rattle.py_read_text.specs.Owing.{all_owed, IsJoined, JoinsAt}
 use Rattle.py_read_text.specs.Answers.{Answers}
 use Rattle.py_read_text.proofs.Living.{lives_on}
 use Rattle.py_textio.specs.Handing as text
@@ -44,20 +44,20 @@ starts_at buffer own at stands (inl none) =
 starts_at buffer own at stands (inr below) = inr (below, omega (arith, stands, below, length-append buffer.owed.bytes own))
 
 -- the bytes of a text are its raw's, with all that it and its buffer owe laid on where that begins
-pub laid_all : (buffer : Buffer) (own : List ℕ) (at : ℕ) → JoinsAt buffer own at → lay (flat_of buffer).bytes buffer.place own ≡ lay buffer.raw.bytes (at - length (buffer.owed.bytes ++ own)) (buffer.owed.bytes ++ own)
+pub laid_all : {taken : ℕ} → (buffer : Buffer) (own : List ℕ) (at : ℕ) → JoinsAt buffer own at taken → lay (flat_of buffer).bytes buffer.place own ≡ lay buffer.raw.bytes (at - length (buffer.owed.bytes ++ own)) (buffer.owed.bytes ++ own)
 laid_all buffer own at joined = by joined.stands
   where
     by : ((buffer.owed.bytes ≡ []) × (own ≡ [])) ⊎ (at ≡ buffer.place + length own) → lay (flat_of buffer).bytes buffer.place own ≡ lay buffer.raw.bytes (at - length (buffer.owed.bytes ++ own)) (buffer.owed.bytes ++ own)
     by (inl none) = rw (none.0, none.1) refl
     by (inr stands) = laid_both buffer.raw.bytes buffer.owed.place buffer.owed.bytes buffer.place own (at - length (buffer.owed.bytes ++ own)) (starts_at buffer own at stands joined.below)
 
-all_reads : (buffer : Buffer) (own : List ℕ) (at : ℕ) → JoinsAt buffer own at → take (length (buffer.owed.bytes ++ own)) (drop (at - length (buffer.owed.bytes ++ own)) (lay (flat_of buffer).bytes buffer.place own)) ≡ buffer.owed.bytes ++ own
+all_reads : {taken : ℕ} → (buffer : Buffer) (own : List ℕ) (at : ℕ) → JoinsAt buffer own at taken → take (length (buffer.owed.bytes ++ own)) (drop (at - length (buffer.owed.bytes ++ own)) (lay (flat_of buffer).bytes buffer.place own)) ≡ buffer.owed.bytes ++ own
 all_reads buffer own at joined =
     ap (λ (bytes : List ℕ). take (length (buffer.owed.bytes ++ own)) (drop (at - length (buffer.owed.bytes ++ own)) bytes)) (laid_all buffer own at joined)
     ∙ lay_reads_back buffer.raw.bytes (at - length (buffer.owed.bytes ++ own)) (buffer.owed.bytes ++ own)
 
 -- all that a text and its buffer owe stands in its bytes, at the place that is handed over, or where the raw can't seek at some place
-all_stand : (buffer : Buffer) (own : List ℕ) (at : ℕ) (seekable : Bool) → JoinsAt buffer own at → StandAt (buffer.owed.bytes ++ own) seekable (if seekable then Some (at - length (buffer.owed.bytes ++ own)) else None) (lay (flat_of buffer).bytes buffer.place own)
+all_stand : {taken : ℕ} → (buffer : Buffer) (own : List ℕ) (at : ℕ) (seekable : Bool) → JoinsAt buffer own at taken → StandAt (buffer.owed.bytes ++ own) seekable (if seekable then Some (at - length (buffer.owed.bytes ++ own)) else None) (lay (flat_of buffer).bytes buffer.place own)
 all_stand buffer own at true joined = all_reads buffer own at joined
 all_stand buffer own at false joined = (at - length (buffer.owed.bytes ++ own), all_reads buffer own at joined)
 
@@ -79,6 +79,7 @@ says_all old new one all first at answers told = record {
   shorts = answers.shorts;
   nothing = λ none. absurd (cc);
   moves = record { settings = answers.moves.settings; life_is = answers.moves.life_is; place = answers.moves.place; written = tt };
+  blames = tt;
   joined = answers.joined;
   owes = answers.owes;
   lays = answers.lays;
@@ -100,6 +101,7 @@ says_all old new one all first at answers told = record {
   passes = answers.passes;
   by_own = answers.by_own;
   kept = tt;
+  holds = tt;
 }
 
 -- The model's step.
@@ -121,7 +123,7 @@ accepts_failed : (file : TextFile) → file.life ≡ life.Failed → refusal fil
 accepts_failed file is = rw is refl
 
 -- of a failed one what it and its buffer owed
-failed_told : (old : TextState) → old.text.life ≡ life.Failed → JoinsAt old.text.buffer old.text.owed old.text.place.at → TextFileStep (file_of old) Detach (Unwritten (all_owed old.text) (place_owed old.text)) false false (in_life (file_of old) life.Detached)
+failed_told : (old : TextState) → old.text.life ≡ life.Failed → IsJoined old.text → TextFileStep (file_of old) Detach (Unwritten (all_owed old.text) (place_owed old.text)) false false (in_life (file_of old) life.Detached)
 failed_told old failed joined =
     let file : TextFile = file_of old in
     let accepts : refusal file Detach ≡ None = accepts_failed file failed in
@@ -136,7 +138,7 @@ failed_told old failed joined =
     })))
 
 -- the buffer and the text's own bytes as they were
-failed_so : (old : TextState) (buffer : Buffer) (own : List ℕ) → old.text.life ≡ life.Failed → JoinsAt old.text.buffer old.text.owed old.text.place.at → buffer ≡ old.text.buffer → own ≡ old.text.owed → TextFileStep (file_of old) Detach (Unwritten (buffer.owed.bytes ++ own) (place_owed (handed_over old buffer own).text)) false false (file_of (handed_over old buffer own))
+failed_so : (old : TextState) (buffer : Buffer) (own : List ℕ) → old.text.life ≡ life.Failed → IsJoined old.text → buffer ≡ old.text.buffer → own ≡ old.text.owed → TextFileStep (file_of old) Detach (Unwritten (buffer.owed.bytes ++ own) (place_owed (handed_over old buffer own).text)) false false (file_of (handed_over old buffer own))
 failed_so old buffer own failed joined buffer_is own_is =
     subst (λ (now : Buffer). TextFileStep (file_of old) Detach (Unwritten (now.owed.bytes ++ own) (place_owed (handed_over old now own).text)) false false (file_of (handed_over old now own))) (sym buffer_is)
     (subst (λ (now : List ℕ). TextFileStep (file_of old) Detach (Unwritten (old.text.buffer.owed.bytes ++ now) (place_owed (handed_over old old.text.buffer now).text)) false false (file_of (handed_over old old.text.buffer now))) (sym own_is)

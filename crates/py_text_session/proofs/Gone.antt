@@ -1,5 +1,5 @@
 -- A text that was detached refuses every call but the getters, and stays as it is, with its raw.
-use Rattle.std.proofs.Common.{◌≡◌, inl, Bool, false, Option, Some, None, refl, sym, ap, ◌∙◌, subst, arith}
+use Rattle.std.proofs.Common.{◌≡◌, ℕ, inl, Bool, false, Option, Some, None, refl, sym, ap, ◌∙◌, subst, arith}
 use Rattle.py_flat.specs.declared.fault.IoFault.{IoFault}
 use Rattle.py_flat.specs.declared.fault.IoFault.TheVariants as fault
 use Rattle.py_flat.specs.declared.life.Life.TheVariants as life
@@ -16,7 +16,7 @@ use Rattle.py_raw.proofs.Telling.{keeps_same}
 use Rattle.py_stream.specs.Buffer.{Buffer}
 use Rattle.py_read_text.specs.TextState.{TextState, file_of}
 use Rattle.py_read_text.specs.Owing.{all_owed, IsJoined, Closes}
-use Rattle.py_read_text.specs.Answers.{Answers, settings_after, LifeMoves, PlaceMoves, WriteMoves, closes_again, WantsMemory, ClosesWithRaw, TextPasses, TextKeeps, MovesByOwn}
+use Rattle.py_read_text.specs.Answers.{Answers, settings_after, LifeMoves, PlaceMoves, WriteMoves, closes_again, WantsMemory, ClosesWithRaw, TextPasses, TextKeeps, TextHolds, TextBlames, MovesByOwn}
 use Rattle.py_read_text.proofs.Owing.{passes_none, moves_none, owes_none, open_still}
 use Rattle.py_read_text.proofs.Fronts.{lays_still}
 use Rattle.py_text_session.specs.Handing.{gone_text}
@@ -80,8 +80,17 @@ keeps_none : (call : TextFileCall) (after : TextState) → TextKeeps call (Refus
 keeps_none (WriteText text) after = tt
 keeps_none call after = tt
 
+blames_none : (call : TextFileCall) (place : TextPlace) (far : ℕ) → TextBlames call (Refused fault.Detached) place far
+blames_none (Read size) place far = tt
+blames_none (ReadLine limit) place far = tt
+blames_none call place far = tt
+
+holds_none : (before : TextOver Buffer) (call : TextFileCall) (after : TextOver Buffer) → TextHolds before call (Refused fault.Detached) after
+holds_none before (WriteText text) after = tt
+holds_none before call after = tt
+
 gone_joined : (can : Abilities) (buffering : Buffering) (settings : TextSettings) (raw : Raw) → IsJoined (gone_text can buffering settings raw).text
-gone_joined can buffering settings raw = record { below = inl refl; stands = inl (refl, refl); behind = omega arith; far = omega arith }
+gone_joined can buffering settings raw = record { below = inl refl; stands = inl (refl, refl); behind = omega arith; far = omega arith; few = omega arith }
 
 gone_step : (file : TextFile) (call : TextFileCall) → refusal file call ≡ Some fault.Detached → TextFileStep file call (Refused fault.Detached) false false file
 gone_step file call is = settled (subst (λ (refused : Option IoFault). SettledBy file call refused (Refused fault.Detached) file) (sym is) (refl, refl))
@@ -99,6 +108,7 @@ gone_answers can buffering settings raw call asks =
       shorts = refl;
       nothing = λ none. refl;
       moves = record { settings = settings_stay call settings; life_is = life_stays can.writable call; place = place_stays call gone.text.place; written = written_stays settings call gone.text.place };
+      blames = blames_none call gone.text.place gone.text.buffer.place;
       joined = gone_joined can buffering settings raw;
       owes = owes_none gone.text call gone.text (moves_none call gone.text.place.at) (passes_none raw (all_owed gone.text));
       lays = lays_still gone.text _;
@@ -120,4 +130,5 @@ gone_answers can buffering settings raw call asks =
       passes = passes_nothing gone call gone;
       by_own = moves_none_own call gone.text;
       kept = keeps_none call gone;
+      holds = holds_none gone.text call gone.text;
     }

@@ -162,6 +162,7 @@ set_answers view changes live accepted joined = record {
   shorts = refl;
   nothing = λ none. refl;
   moves = record { settings = refl; life_is = refl; place = refl; written = tt };
+  blames = tt;
   joined = joined;
   lays = lays_still (over_of view) _;
   unclosed = λ some closed. refl;
@@ -183,6 +184,7 @@ set_answers view changes live accepted joined = record {
   passes = tt;
   by_own = tt;
   kept = tt;
+  holds = tt;
 }
 
 over_set : (old new : WrittenView) (changes : Changes) → IsSetTo (changed old.text.settings changes) old.text new.text → new.pending ≡ old.pending → new.life ≡ old.life → over_of new ≡ with_changes (over_of old) changes

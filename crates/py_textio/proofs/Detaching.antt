@@ -99,6 +99,7 @@ refuses_so old new why other answers =
       shorts = answers.shorts;
       nothing = λ none. absurd (cc);
       moves = record { settings = answers.moves.settings; life_is = life_refused old.text.buffer.can.writable why old.text.life new.text.life answers.moves.life_is; place = answers.moves.place; written = tt };
+      blames = tt;
       joined = answers.joined;
       owes = record { taken = answers.owes.taken; whole = answers.owes.whole; place = tt; passes = answers.owes.passes };
       lays = answers.lays;
@@ -120,6 +121,7 @@ refuses_so old new why other answers =
       passes = tt;
       by_own = answers.by_own;
       kept = tt;
+      holds = tt;
     }
 
 -- A flush that was done.
@@ -170,6 +172,7 @@ detached_done old new live answers =
       shorts = whole;
       nothing = λ none. absurd (cc);
       moves = record { settings = answers.moves.settings; life_is = refl; place = answers.moves.place; written = tt };
+      blames = tt;
       joined = answers.joined;
       owes = record { taken = answers.owes.taken; whole = answers.owes.whole; place = tt; passes = answers.owes.passes };
       lays = answers.lays;
@@ -192,6 +195,7 @@ detached_done old new live answers =
       passes = λ lives. let passed = answers.passes in record { own = passed.own; none = passed.none; holds = passed.holds };
       by_own = answers.by_own;
       kept = tt;
+      holds = tt;
     }
 
 -- the text that was handed over, by its parts
@@ -210,7 +214,7 @@ accepts_failed : (file : TextFile) → file.life ≡ life.Failed → refusal fil
 accepts_failed file is = rw is refl
 
 -- what the text itself owes begins where the buffer stands
-begins_there : (buffer : Buffer) (owed : List ℕ) (at : ℕ) → JoinsAt buffer owed at → (owed ≡ []) ⊎ (at - length owed ≡ buffer.place)
+begins_there : {taken : ℕ} → (buffer : Buffer) (owed : List ℕ) (at : ℕ) → JoinsAt buffer owed at taken → (owed ≡ []) ⊎ (at - length owed ≡ buffer.place)
 begins_there buffer owed at joined = by joined.stands
   where
     by : ((buffer.owed.bytes ≡ []) × (owed ≡ [])) ⊎ (at ≡ buffer.place + length owed) → (owed ≡ []) ⊎ (at - length owed ≡ buffer.place)
@@ -235,6 +239,7 @@ hands_failed old failed joined =
       shorts = refl;
       nothing = λ none. refl;
       moves = record { settings = refl; life_is = refl; place = refl; written = tt };
+      blames = tt;
       joined = joined;
       owes = owes_none old.text Detach (handed_over old old.text.buffer old.text.owed).text tt (passes_none old.text.buffer.raw (all_owed old.text));
       lays = lays_still old.text _;
@@ -264,6 +269,7 @@ hands_failed old failed joined =
       passes = λ lives. let never : life.Failed ≡ life.Live = sym failed ∙ lives in absurd (cc);
       by_own = refl;
       kept = tt;
+      holds = tt;
     }
 
 -- How it comes out.

@@ -79,6 +79,7 @@ none_answers (Characters size) old was live can none joined = record {
   shorts = refl;
   nothing = λ is. refl;
   moves = record { settings = refl; life_is = refl; place = none_moves (Characters size) (place_now old) old.text.buffer.place none; written = tt };
+  blames = tt;
   joined = joined;
   owes = owes_none (over_of old) (call_of (Characters size)) (over_of old) tt (passes_none old.text.buffer.raw (all_owed (over_of old)));
   lays = lays_still (over_of old) _;
@@ -100,6 +101,7 @@ none_answers (Characters size) old was live can none joined = record {
   passes = tt;
   by_own = tt;
   kept = tt;
+  holds = tt;
 }
 none_answers (Line limit) old was live can none joined = record {
   keeps = record { raw = keeps_same old.text.buffer.raw; can = refl; buffering = refl; exported = refl };
@@ -110,6 +112,7 @@ none_answers (Line limit) old was live can none joined = record {
   shorts = refl;
   nothing = λ is. refl;
   moves = record { settings = refl; life_is = refl; place = none_moves (Line limit) (place_now old) old.text.buffer.place none; written = tt };
+  blames = tt;
   joined = joined;
   owes = owes_none (over_of old) (call_of (Line limit)) (over_of old) tt (passes_none old.text.buffer.raw (all_owed (over_of old)));
   lays = lays_still (over_of old) _;
@@ -131,6 +134,7 @@ none_answers (Line limit) old was live can none joined = record {
   passes = tt;
   by_own = tt;
   kept = tt;
+  holds = tt;
 }
 
 -- a reading of no characters of a text, however it is seen

@@ -21,10 +21,10 @@ use Rattle.py_held_text.specs.declared.wanted.Wanted.TheVariants.{Characters, Li
 use Rattle.py_read_text.specs.Reading.{call_of, asks_none}
 use Rattle.py_read_text.proofs.Steps.{accepts}
 use Rattle.py_read_text.specs.TextState.{TextState}
-use Rattle.py_read_text.specs.Owing.{all_owed, behind_own, PassesOwed, given_by, WriteMovesBy, OwesOn, own_from, GaveOwn, Starves, KeepsOpen, Closes, IsJoined, LaysOwed}
+use Rattle.py_read_text.specs.Owing.{all_owed, behind_own, PassesOwed, given_by, WriteMovesBy, OwesOn, own_from, flushes_behind, GaveOwn, Starves, KeepsOpen, Closes, IsJoined, LaysOwed}
 use Rattle.py_read_text.proofs.Owing.{has_own, passes_then, passes_behind, open_then, owing_then}
 use Rattle.py_read_text.specs.Ahead.{AsksAsNeeded, starts_at, ReadsNoFurther}
-use Rattle.py_read_text.specs.Answers.{calls_nothing, passes_on, gives_text, LifeMoves, PlaceMoves, WriteMoves, settings_after, IsReplyTo, WantsMemory, closes_again, TextPasses, MovesByOwn, Answers}
+use Rattle.py_read_text.specs.Answers.{calls_nothing, passes_on, gives_text, LifeMoves, PlaceMoves, WriteMoves, settings_after, IsReplyTo, WantsMemory, closes_again, TextPasses, MovesByOwn, TextHolds, TextBlames, Answers}
 use Rattle.py_read_text.specs.Knowing.{place_of}
 use Rattle.py_textio.specs.Written.{WrittenView, behind_owed, place_now, over_of, state_of, file_now, CallsBuffer, HandsOnBut, HandsOn, SettleOutcome}
 use Rattle.py_textio.specs.Working.{Works}
@@ -104,8 +104,8 @@ owes_behind old mid new call keeps first settings place second = record {
 }
 
 -- bytes that went on of a text whose buffer had taken all that it owed
-gave_behind : (old mid : WrittenView) (new : TextOver Buffer) → HandsOn old false false mid → mid.pending ≡ [] → GaveOwn (over_of mid) new → GaveOwn (over_of old) new
-gave_behind old mid new hands none gave = by_gave gave
+gave_behind : (old mid : WrittenView) (flushes : Bool) (new : TextOver Buffer) → HandsOn old false false mid → mid.pending ≡ [] → GaveOwn flushes (over_of mid) new → GaveOwn flushes (over_of old) new
+gave_behind old mid flushes new hands none gave = by_gave gave
   where
     at : (place_now mid).at ≡ (place_now old).at
     at = ap (λ (place : TextPlace). place.at) hands.place
@@ -117,9 +117,9 @@ gave_behind old mid new hands none gave = by_gave gave
     left : length mid.text.buffer.owed.bytes + hands.owes.passed ≡ length old.text.buffer.owed.bytes + length old.pending
     left = omega (arith, hands.owes.most, ap length hands.owes.rest, length-drop hands.owes.passed (all_owed (over_of old)), length-append mid.text.buffer.owed.bytes mid.pending, length-append old.text.buffer.owed.bytes old.pending, ap length none)
 
-    by_gave : GaveOwn (over_of mid) new → GaveOwn (over_of old) new
-    by_gave (inl further) = inl (omega (arith, further, from))
-    by_gave (inr took) = inr (
+    by_gave : GaveOwn flushes (over_of mid) new → GaveOwn flushes (over_of old) new
+    by_gave (inr all) = inr (all.0, record { further = omega (arith, all.1.further, from); none = all.1.none })
+    by_gave (inl took) = inl (
       took.0,
       record {
         further = omega (arith, took.1.further, from);
@@ -130,7 +130,7 @@ gave_behind old mid new hands none gave = by_gave gave
 
 starves_behind : (old mid : WrittenView) (call : TextFileCall) (reply : FileReply) (new : TextOver Buffer) → HandsOn old false false mid → old.pending ≢ [] → mid.pending ≡ [] → mid.life ≡ old.life → Starves (over_of mid) call reply new → Starves (over_of old) call reply new
 starves_behind old mid call (Refused fault.NoMemory) new hands owes none current (inl stays) = inl (record { life_is = stays.life_is ∙ current; settings = stays.settings ∙ hands.settings; place = stays.place ∙ hands.place })
-starves_behind old mid call (Refused fault.NoMemory) new hands owes none current (inr failed) = inr (failed.0, has_own (over_of old) call owes, gave_behind old mid new hands none failed.2)
+starves_behind old mid call (Refused fault.NoMemory) new hands owes none current (inr failed) = inr (failed.0, has_own (over_of old) call owes, subst (λ (settings : TextSettings). GaveOwn (flushes_behind settings call) (over_of old) new) hands.settings (gave_behind old mid (flushes_behind mid.text.settings call) new hands none failed.2))
 starves_behind old mid call reply new hands owes none current starves = tt
 
 -- a text doesn't stand before where what it owes its buffer begins
@@ -146,8 +146,8 @@ needs_over old mid new call short hands current stood there needs told =
     (subst (λ (settings : TextSettings). AsksAsNeeded (file_now mid) call settings.chunk_size (starts_at (state_of old false)) new.text.buffer.place) hands.settings
     (subst (λ (at : ℕ). AsksAsNeeded (file_now mid) call mid.text.settings.chunk_size at new.text.buffer.place) start (needs (tells_still old.text.buffer.raw mid.text.buffer.raw hands.calls.keeps.raw ∙ told))))
 
-pub answers_over : (old mid : WrittenView) (call : TextFileCall) (reply : FileReply) (new : WrittenView) (short : Bool) → IsJoined (over_of old) → IsJoined (over_of mid) → old.text.buffer.can.writable ≡ true → old.life ≡ life.Live → mid.life ≡ life.Live → old.text.at ≡ old.text.buffer.place → mid.text.at ≡ mid.text.buffer.place → HandsOn old false false mid → mid.pending ≡ [] → passes_on old.pending call ≡ true → old.pending ≢ [] → calls_nothing call ≡ false → closes_again life.Live call ≡ false → refusal (file_now old) call ≡ None → (refusal (file_now mid) call ≡ None) → WriteMoves old.text.settings call reply (place_now old) (place_now new) → TextPasses (state_of old false) call reply (state_of new short) → WantsMemory call reply old.text.buffer → Closes old.life call old.text.buffer reply new.text.buffer → (gives_text call ≡ true → ReadsNoFurther (state_of old false) call (state_of new short)) → Answers (state_of mid false) call reply (state_of new short) → Works old call reply new short
-answers_over old mid call reply new short was is writes live lives stood there hands none busy owes some once accepted still written passes wants closes needs answers =
+pub answers_over : (old mid : WrittenView) (call : TextFileCall) (reply : FileReply) (new : WrittenView) (short : Bool) → IsJoined (over_of old) → IsJoined (over_of mid) → old.text.buffer.can.writable ≡ true → old.life ≡ life.Live → mid.life ≡ life.Live → old.text.at ≡ old.text.buffer.place → mid.text.at ≡ mid.text.buffer.place → HandsOn old false false mid → mid.pending ≡ [] → passes_on old.pending call ≡ true → old.pending ≢ [] → calls_nothing call ≡ false → closes_again life.Live call ≡ false → refusal (file_now old) call ≡ None → (refusal (file_now mid) call ≡ None) → WriteMoves old.text.settings call reply (place_now old) (place_now new) → TextPasses (state_of old false) call reply (state_of new short) → WantsMemory call reply old.text.buffer → Closes old.life call old.text.buffer reply new.text.buffer → (gives_text call ≡ true → ReadsNoFurther (state_of old false) call (state_of new short)) → TextHolds (over_of old) call reply (over_of new) → Answers (state_of mid false) call reply (state_of new short) → Works old call reply new short
+answers_over old mid call reply new short was is writes live lives stood there hands none busy owes some once accepted still written passes wants closes needs holds answers =
     let can : mid.text.buffer.can ≡ old.text.buffer.can = hands.calls.keeps.can in
     let current : mid.life ≡ old.life = lives ∙ sym live in
     let mid_writes : mid.text.buffer.can.writable ≡ true = same_writes old mid can ∙ writes in
@@ -169,6 +169,7 @@ answers_over old mid call reply new short was is writes live lives stood there h
       life_is = subst (λ (own : Bool). LifeMoves own call reply old.life new.life) mid_writes (subst (λ (own : Life). LifeMoves mid.text.buffer.can.writable call reply own new.life) current answers.moves.life_is);
       place = subst (λ (own : TextPlace). PlaceMoves call short reply own new.text.buffer.place (place_now new)) hands.place answers.moves.place;
       written = written;
+      blames = subst (λ (own : TextPlace). TextBlames call reply own new.text.buffer.place) hands.place answers.blames;
       joined = answers.joined;
       owes = owes_behind (over_of old) (over_of mid) (over_of new) call hands.calls.keeps.raw hands.owes hands.settings hands.place answers.owes;
       lays = subst (λ (own : TextSettings). LaysOwed (over_of old) (all_owed (over_of old) ++ given_by own call) (over_of new)) hands.settings
@@ -190,6 +191,7 @@ answers_over old mid call reply new short was is writes live lives stood there h
       passes = passes;
       by_own = moves_on call (over_of old) (over_of mid) (over_of new) (behind_still old mid stood there hands.place) answers.by_own;
       kept = answers.kept;
+      holds = holds;
     }
 
 -- A call of a live text that owed something, behind what was handed on.
@@ -201,6 +203,10 @@ unwritten_read (Line limit) settings reply before after = tt
 unpassed_read : (asked : Wanted) (before : TextState) (reply : FileReply) (after : TextState) → TextPasses before (call_of asked) reply after
 unpassed_read (Characters size) before reply after = tt
 unpassed_read (Line limit) before reply after = tt
+
+unheld_read : (asked : Wanted) (before : TextOver Buffer) (reply : FileReply) (after : TextOver Buffer) → TextHolds before (call_of asked) reply after
+unheld_read (Characters size) before reply after = tt
+unheld_read (Line limit) before reply after = tt
 
 unwanted_read : (asked : Wanted) (reply : FileReply) (buffer : Buffer) → WantsMemory (call_of asked) reply buffer
 unwanted_read (Characters size) reply buffer = tt
@@ -226,7 +232,7 @@ pub read_over : (old mid new : WrittenView) (asked : Wanted) (reply : FileReply)
 read_over old mid new asked reply short was is writes live stood there owes can some outcome answers =
     let hands = outcome.0 in
     let still : mid.text.buffer.can.readable ≡ true = ap (λ (own : Abilities). own.readable) hands.calls.keeps.can ∙ can in
-    answers_work old (call_of asked) reply new short (answers_over old mid (call_of asked) reply new short was is writes live outcome.2 stood there hands outcome.1 (busy_read old.pending asked owes) owes (some_read asked some) (once_read asked) (accepts (file_now old) asked live can) (accepts (file_now mid) asked outcome.2 still) (unwritten_read asked old.text.settings reply (place_now old) (place_now new)) (unpassed_read asked (state_of old false) reply (state_of new short)) (unwanted_read asked reply old.text.buffer) (unclosed_read asked old.life old.text.buffer reply new.text.buffer) (λ gives. needs_over old mid new (call_of asked) short hands (outcome.2 ∙ sym live) stood there (answers.needs gives)) answers)
+    answers_work old (call_of asked) reply new short (answers_over old mid (call_of asked) reply new short was is writes live outcome.2 stood there hands outcome.1 (busy_read old.pending asked owes) owes (some_read asked some) (once_read asked) (accepts (file_now old) asked live can) (accepts (file_now mid) asked outcome.2 still) (unwritten_read asked old.text.settings reply (place_now old) (place_now new)) (unpassed_read asked (state_of old false) reply (state_of new short)) (unwanted_read asked reply old.text.buffer) (unclosed_read asked old.life old.text.buffer reply new.text.buffer) (λ gives. needs_over old mid new (call_of asked) short hands (outcome.2 ∙ sym live) stood there (answers.needs gives)) (unheld_read asked (over_of old) reply (over_of new)) answers)
 
 busy_other : (owed : List ℕ) (call : TextFileCall) → owed ≢ [] → passes_on owed call ≡ true
 busy_other [] call some = absurd (some refl)
@@ -252,9 +258,9 @@ passes_flush old mid reply after passes = grind arith
 pub flush_over : (old mid new : WrittenView) (reply : FileReply) (short : Bool) → IsJoined (over_of old) → IsJoined (over_of mid) → old.text.buffer.can.writable ≡ true → old.life ≡ life.Live → old.text.at ≡ old.text.buffer.place → mid.text.at ≡ mid.text.buffer.place → old.pending ≢ [] → SettleOutcome old (Ok tt) mid → Answers (state_of mid false) Flush reply (state_of new short) → Answers (state_of old false) Flush reply (state_of new short)
 flush_over old mid new reply short was is writes live stood there owes outcome answers =
     let hands = outcome.0 in
-    answers_work old Flush reply new short (answers_over old mid Flush reply new short was is writes live outcome.2 stood there hands outcome.1 (busy_other old.pending Flush owes) owes refl refl (rw live refl) (rw outcome.2 refl) tt (passes_flush (state_of old false) (state_of mid false) reply (state_of new short) answers.passes) (wants_flush old.text.buffer mid.text.buffer reply hands.calls.keeps answers.wants) tt (λ gives. absurd (cc)) answers)
+    answers_work old Flush reply new short (answers_over old mid Flush reply new short was is writes live outcome.2 stood there hands outcome.1 (busy_other old.pending Flush owes) owes refl refl (rw live refl) (rw outcome.2 refl) tt (passes_flush (state_of old false) (state_of mid false) reply (state_of new short) answers.passes) (wants_flush old.text.buffer mid.text.buffer reply hands.calls.keeps answers.wants) tt (λ gives. absurd (cc)) tt answers)
 
 pub close_over : (old mid new : WrittenView) (reply : FileReply) (short : Bool) → IsJoined (over_of old) → IsJoined (over_of mid) → old.text.buffer.can.writable ≡ true → old.life ≡ life.Live → old.text.at ≡ old.text.buffer.place → mid.text.at ≡ mid.text.buffer.place → old.pending ≢ [] → SettleOutcome old (Ok tt) mid → Answers (state_of mid false) Close reply (state_of new short) → Answers (state_of old false) Close reply (state_of new short)
 close_over old mid new reply short was is writes live stood there owes outcome answers =
     let hands = outcome.0 in
-    answers_work old Close reply new short (answers_over old mid Close reply new short was is writes live outcome.2 stood there hands outcome.1 (busy_other old.pending Close owes) owes refl refl (rw live refl) (rw outcome.2 refl) tt (passes_close (state_of old false) (state_of mid false) reply (state_of new short) outcome.2 answers.passes) (wants_close old.text.buffer mid.text.buffer reply hands.calls.keeps answers.wants) (closes_behind mid.life old.life reply old.text.buffer mid.text.buffer new.text.buffer outcome.2 hands.stays answers.closes) (λ gives. absurd (cc)) answers)
+    answers_work old Close reply new short (answers_over old mid Close reply new short was is writes live outcome.2 stood there hands outcome.1 (busy_other old.pending Close owes) owes refl refl (rw live refl) (rw outcome.2 refl) tt (passes_close (state_of old false) (state_of mid false) reply (state_of new short) outcome.2 answers.passes) (wants_close old.text.buffer mid.text.buffer reply hands.calls.keeps answers.wants) (closes_behind mid.life old.life reply old.text.buffer mid.text.buffer new.text.buffer outcome.2 hands.stays answers.closes) (λ gives. absurd (cc)) tt answers)

@@ -23,9 +23,10 @@ use Rattle.py_held_text.specs.declared.wanted.Wanted.{Wanted}
 use Rattle.py_held_text.specs.declared.wanted.Wanted.TheVariants.{Characters, Line}
 use Rattle.py_read_text.specs.TextState.{TextState}
 use Rattle.py_read_text.specs.Owing.{all_owed, IsJoined, Starves, Closes}
-use Rattle.py_read_text.specs.Answers.{IsShort, PlaceMoves, WriteMoves, LifeMoves, settings_after, closes_again, WantsMemory, ClosesWithRaw, TextPasses, TextKeeps, Answers}
+use Rattle.py_read_text.specs.Answers.{IsShort, PlaceMoves, WriteMoves, LifeMoves, settings_after, closes_again, WantsMemory, ClosesWithRaw, TextPasses, TextKeeps, TextHolds, TextBlames, Answers}
 use Rattle.py_read_text.specs.Reading.{call_of}
 use Rattle.py_read_text.proofs.Owing.{passes_none, moves_none, owes_none, open_still}
+use Rattle.py_read_text.proofs.Steps.{accepts}
 use Rattle.py_textio.specs.Written.{WrittenView, place_now, over_of, state_of, file_now}
 use Rattle.py_textio.proofs.Over.{stays_put}
 use Rattle.py_read_text.proofs.Fronts.{lays_still}
@@ -98,6 +99,48 @@ closes_refused current call why buffer = tt
 step_refused : (file : TextFile) (call : TextFileCall) (why : IoFault) → refusal file call ≡ Some why → TextFileStep file call (Refused why) false false file
 step_refused file call why is = settled (subst (λ (refused : Option IoFault). SettledBy file call refused (Refused why) file) (sym is) (refl, refl))
 
+-- What refuses a reading.
+
+by_life : (file : TextFile) (asked : Wanted) (current : Life) (why : IoFault) → file.life ≡ current → life_fault current ≡ Some why → refusal file (call_of asked) ≡ Some why
+by_life file asked life.Live why is refuses = absurd (cc)
+by_life file (Characters size) life.Failed why is refuses = rw is refuses
+by_life file (Characters size) life.Closed why is refuses = rw is refuses
+by_life file (Characters size) life.Detached why is refuses = rw is refuses
+by_life file (Line limit) life.Failed why is refuses = rw is refuses
+by_life file (Line limit) life.Closed why is refuses = rw is refuses
+by_life file (Line limit) life.Detached why is refuses = rw is refuses
+
+unread : (file : TextFile) (asked : Wanted) → file.life ≡ life.Live → file.can.readable ≡ false → refusal file (call_of asked) ≡ Some fault.Unsupported
+unread file (Characters size) live can = rw live (rw can refl)
+unread file (Line limit) live can = rw live (rw can refl)
+
+-- whether a fault is that of a refused range
+abbrev of_range : IoFault → Bool
+of_range (fault.UnicodeDecodeError start end) = true
+of_range why = false
+
+same_range : (one other : IoFault) → Some one ≡ Some other → of_range one ≡ false → of_range other ≡ false
+same_range one other same is = let own : one ≡ other = cc in ap of_range (sym own) ∙ is
+
+-- what refuses a reading before its bytes are looked at is no refused range
+refuses_no_range : (file : TextFile) (asked : Wanted) (current : Life) (readable : Bool) (why : IoFault) → file.life ≡ current → file.can.readable ≡ readable → refusal file (call_of asked) ≡ Some why → of_range why ≡ false
+refuses_no_range file asked life.Live true why is can here = let never = sym (accepts file asked is can) ∙ here in absurd (cc)
+refuses_no_range file asked life.Live false why is can here = same_range fault.Unsupported why (sym (unread file asked is can) ∙ here) refl
+refuses_no_range file asked life.Failed readable why is can here = same_range fault.Failed why (sym (by_life file asked life.Failed fault.Failed is refl) ∙ here) refl
+refuses_no_range file asked life.Closed readable why is can here = same_range fault.Closed why (sym (by_life file asked life.Closed fault.Closed is refl) ∙ here) refl
+refuses_no_range file asked life.Detached readable why is can here = same_range fault.Detached why (sym (by_life file asked life.Detached fault.Detached is refl) ∙ here) refl
+
+blames_refused : (file : TextFile) (call : TextFileCall) (why : IoFault) (place : TextPlace) (far : ℕ) → refusal file call ≡ Some why → TextBlames call (Refused why) place far
+blames_refused file (Read size) (fault.UnicodeDecodeError start end) place far is = let never = refuses_no_range file (Characters size) file.life file.can.readable (fault.UnicodeDecodeError start end) refl refl is in absurd (cc)
+blames_refused file (Read size) why place far is = tt
+blames_refused file (ReadLine limit) (fault.UnicodeDecodeError start end) place far is = let never = refuses_no_range file (Line limit) file.life file.can.readable (fault.UnicodeDecodeError start end) refl refl is in absurd (cc)
+blames_refused file (ReadLine limit) why place far is = tt
+blames_refused file call why place far is = tt
+
+holds_refused : (before : TextOver Buffer) (call : TextFileCall) (why : IoFault) (after : TextOver Buffer) → TextHolds before call (Refused why) after
+holds_refused before (WriteText text) why after = tt
+holds_refused before call why after = tt
+
 -- a call that is refused
 pub refused : (text : WrittenView) (was : Bool) (call : TextFileCall) (why : IoFault) → refusal (file_now text) call ≡ Some why → blames why ≡ false → closes_again text.life call ≡ false → IsJoined (over_of text) → Answers (state_of text was) call (Refused why) (state_of text false)
 refused text was call why is own once joined =
@@ -111,6 +154,7 @@ refused text was call why is own once joined =
       shorts = whole_refused why own;
       nothing = λ none. refl;
       moves = record { settings = settings_refused call why text.text.settings; life_is = life_refused text.text.buffer.can.writable call why text.life own; place = place_refused call why (place_now text) text.text.buffer.place; written = written_refused text.text.settings call why (place_now text) own };
+      blames = blames_refused (file_now text) call why (place_now text) text.text.buffer.place is;
       joined = joined;
       owes = owes_none (over_of text) call (over_of text) (moves_none call (place_now text).at) (passes_none text.text.buffer.raw (all_owed (over_of text)));
       lays = lays_still (over_of text) _;
@@ -132,22 +176,10 @@ refused text was call why is own once joined =
       passes = passes_refused (state_of text was) call why (state_of text false);
       by_own = stays_put call (over_of text);
       kept = keeps_refused call why (state_of text false);
+      holds = holds_refused (over_of text) call why (over_of text);
     }
 
 -- What refuses.
-
-by_life : (file : TextFile) (asked : Wanted) (current : Life) (why : IoFault) → file.life ≡ current → life_fault current ≡ Some why → refusal file (call_of asked) ≡ Some why
-by_life file asked life.Live why is refuses = absurd (cc)
-by_life file (Characters size) life.Failed why is refuses = rw is refuses
-by_life file (Characters size) life.Closed why is refuses = rw is refuses
-by_life file (Characters size) life.Detached why is refuses = rw is refuses
-by_life file (Line limit) life.Failed why is refuses = rw is refuses
-by_life file (Line limit) life.Closed why is refuses = rw is refuses
-by_life file (Line limit) life.Detached why is refuses = rw is refuses
-
-unread : (file : TextFile) (asked : Wanted) → file.life ≡ life.Live → file.can.readable ≡ false → refusal file (call_of asked) ≡ Some fault.Unsupported
-unread file (Characters size) live can = rw live (rw can refl)
-unread file (Line limit) live can = rw live (rw can refl)
 
 never_again : (asked : Wanted) (current : Life) → closes_again current (call_of asked) ≡ false
 never_again (Characters size) current = refl
@@ -237,6 +269,7 @@ closed_again now text was same is joined =
       shorts = refl;
       nothing = λ none. refl;
       moves = record { settings = refl; life_is = is; place = refl; written = tt };
+      blames = tt;
       joined = joined;
       owes = owes_none (over_of text) Close (over_of text) tt (passes_none text.text.buffer.raw (all_owed (over_of text)));
       lays = lays_still (over_of text) _;
@@ -258,6 +291,7 @@ closed_again now text was same is joined =
       passes = λ live. let never : life.Closed ≡ life.Live = sym is ∙ live in absurd (cc);
       by_own = refl;
       kept = tt;
+      holds = tt;
     })
 
 -- Chunks of another size.
@@ -310,6 +344,7 @@ chunks_so now text new was size same live some joined is =
       shorts = refl;
       nothing = λ none. refl;
       moves = record { settings = refl; life_is = refl; place = refl; written = tt };
+      blames = tt;
       joined = joined;
       owes = owes_none (over_of text) (SetChunkSize size) (over_of (with_chunk text size)) tt (passes_none text.text.buffer.raw (all_owed (over_of text)));
       lays = lays_still (over_of text) _;
@@ -331,6 +366,7 @@ chunks_so now text new was size same live some joined is =
       passes = tt;
       by_own = tt;
       kept = tt;
+      holds = tt;
     }))
 
 -- Flushing.
@@ -384,6 +420,7 @@ over_short now text was call reply after same passes answers = subst (λ (before
   shorts = answers.shorts;
   nothing = answers.nothing;
   moves = record { settings = answers.moves.settings; life_is = answers.moves.life_is; place = answers.moves.place; written = answers.moves.written };
+  blames = answers.blames;
   joined = answers.joined;
   owes = answers.owes;
   lays = answers.lays;
@@ -405,6 +442,7 @@ over_short now text was call reply after same passes answers = subst (λ (before
   passes = passes;
   by_own = answers.by_own;
   kept = answers.kept;
+  holds = answers.holds;
 })
 
 pub passes_read : (asked : Wanted) (before : TextState) (reply : FileReply) (after : TextState) → TextPasses before (call_of asked) reply after

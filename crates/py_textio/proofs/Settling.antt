@@ -26,7 +26,7 @@ use Rattle.py_plain_text.specs.TextCalls.{TextFileCall}
 use Rattle.py_read_text.specs.TextState.{TextState}
 use Rattle.py_read_text.specs.Answers.{further, Answers}
 use Rattle.py_read_text.specs.Knowing.{TextView, place_of, over_of as read_of, state_of as read_state}
-use Rattle.py_read_text.specs.Owing.{all_owed, IsJoined, PassesOwed, own_from, stream_from, GaveOwn, all_from, LaysFront, LaysOwed}
+use Rattle.py_read_text.specs.Owing.{all_owed, IsJoined, PassesOwed, own_from, stream_from, FailedWithOwn, all_from, LaysFront, LaysOwed}
 use Rattle.py_read_text.specs.Reading.{KeepsPlace}
 use Rattle.py_read_text.specs.Writing.{unit_of, StandsBehind, LeavesFlat, ReturnOutcome}
 use Rattle.py_raw.proofs.Telling.{keeps_same, tells_still}
@@ -188,8 +188,8 @@ settled_so old new (Err fault.NoMemory) ends live answers takes was stands left 
     alive (inl same) = inl (same ∙ lives)
     alive (inr failed) = inr failed
 
-    starved : (new.text.buffer.life ≡ old.text.buffer.life) ⊎ (new.text.buffer.life ≡ life.Failed) → TakesNothing old new ⊎ ((new.life ≡ life.Failed) × (old.text.buffer.can.writable ≡ true) × GaveOwn (over_of old) (over_of new))
-    starved (inr failed) = inr (current ∙ failed, writes, inr (failed, took_from old (stream_shown new.text.buffer) was.1 (answers.starves refl refl failed)))
+    starved : (new.text.buffer.life ≡ old.text.buffer.life) ⊎ (new.text.buffer.life ≡ life.Failed) → TakesNothing old new ⊎ ((new.life ≡ life.Failed) × (old.text.buffer.can.writable ≡ true) × FailedWithOwn (over_of old) (over_of new))
+    starved (inr failed) = inr (current ∙ failed, writes, (failed, took_from old (stream_shown new.text.buffer) was.1 (answers.starves refl refl failed)))
     starved (inl same) =
         let lives_on : new.text.buffer.life ≡ life.Live = same ∙ lives in
         let place : new.text.buffer.place ≡ old.text.buffer.place = subst (λ (own : Life). PlaceStarves own (Some (length old.pending)) old.text.buffer.place new.text.buffer.place) lives_on answers.moves.place in
@@ -254,7 +254,7 @@ pub joined_with : (text : TextView) (pending : List ℕ) (room : ℕ) (current :
 joined_with text [] room current is = is.joined
 joined_with text (byte ∷ more) room current is =
     let stands = stands_so text (byte ∷ more) current is (λ none. absurd (cc)) in
-    record { below = is.joined.below; stands = inr (omega (arith, stands.1)); behind = omega (arith, is.joined.behind); far = is.far }
+    record { below = is.joined.below; stands = inr (omega (arith, stands.1)); behind = omega (arith, is.joined.behind); far = is.far; few = omega (arith, stands.0.taken) }
 
 -- a text that owes nothing itself, seen by its parts and as the text that reads is
 state_same : (text : TextView) (pending : List ℕ) (room : ℕ) (current : Life) (short : Bool) → pending ≡ [] → current ≡ text.buffer.life → read_state text short ≡ state_of (view_of text pending room current) short
@@ -313,6 +313,7 @@ went_back now old new pending room more before after same is live place outcome 
       lives = current ∙ lives;
       pending = refl;
       stands = (record { taken = place.taken ∙ is.clean clean; dirty = place.dirty ∙ clean }, outcome.0);
+      still = outcome.2;
     })
 
 -- what holds of every text, after its buffer went back, or failed to
@@ -469,7 +470,7 @@ passed_behind old mid new count flushes (Err (fault.WouldBlock taken)) was is ha
 passed_behind old mid new count flushes (Err fault.RawFault) was is hands outcome some = (hands_on old mid new false true was is hands outcome.0, outcome.1)
 passed_behind old mid new count flushes (Err fault.NoMemory) was is hands outcome some =
     let on = hands_on old mid new false false was is hands outcome.0 in
-    inl (on, outcome.1, some outcome.2, inl (went_on old new (some outcome.2) on.place outcome.3))
+    inl (on, outcome.1, some outcome.2, inr (outcome.2, record { further = went_on old new (some outcome.2) on.place outcome.3; none = outcome.3 }))
 passed_behind old mid new count flushes (Err other) was is hands outcome some = absurd outcome
 
 -- what is owed couldn't be handed on, and the text isn't as it was
@@ -478,16 +479,16 @@ handed_not old new count flushes (fault.WouldBlock taken) some outcome failed = 
 handed_not old new count flushes fault.RawFault some outcome failed = (outcome.0, outcome.1)
 handed_not old new count flushes fault.NoMemory some outcome failed = by_life outcome.2
   where
-    by_life : TakesNothing old new ⊎ ((new.life ≡ life.Failed) × (old.text.buffer.can.writable ≡ true) × GaveOwn (over_of old) (over_of new)) → HandOutcome old count flushes (Err fault.NoMemory) new
+    by_life : TakesNothing old new ⊎ ((new.life ≡ life.Failed) × (old.text.buffer.can.writable ≡ true) × FailedWithOwn (over_of old) (over_of new)) → HandOutcome old count flushes (Err fault.NoMemory) new
     by_life (inl nothing) = absurd (failed refl nothing.lives)
-    by_life (inr gave) = inl (outcome.0, gave.0, some, gave.2)
+    by_life (inr gave) = inl (outcome.0, gave.0, some, inl gave.2)
 handed_not old new count flushes other some outcome failed = absurd outcome
 
 -- the buffer took nothing for want of memory, and the last bytes are let go of
 pub lets_go : (old mid new : WrittenView) (count room : ℕ) → SettleOutcome old (Err fault.NoMemory) mid → mid.life ≡ life.Live → new ≡ record mid { pending = take (length mid.pending - count) mid.pending; room = room } → LetsGo old count new
 lets_go old mid new count room outcome lives is = subst (λ (view : WrittenView). LetsGo old count view) (sym is) (by_life outcome.2)
   where
-    by_life : TakesNothing old mid ⊎ ((mid.life ≡ life.Failed) × (old.text.buffer.can.writable ≡ true) × GaveOwn (over_of old) (over_of mid)) → LetsGo old count (record mid { pending = take (length mid.pending - count) mid.pending; room = room })
+    by_life : TakesNothing old mid ⊎ ((mid.life ≡ life.Failed) × (old.text.buffer.can.writable ≡ true) × FailedWithOwn (over_of old) (over_of mid)) → LetsGo old count (record mid { pending = take (length mid.pending - count) mid.pending; room = room })
     by_life (inr failed) = let never : life.Live ≡ life.Failed = sym lives ∙ failed.0 in absurd (cc)
     by_life (inl nothing) = record {
       calls = outcome.0.calls;

@@ -15,11 +15,11 @@ use Rattle.py_stream.specs.Kinds.{says_wait, says_fault}
 use Rattle.py_stream.specs.Buffer.{Buffer, WhereShown}
 use Rattle.py_held_text.specs.declared.wanted.Wanted.{Wanted}
 use Rattle.py_held_text.specs.declared.wanted.Wanted.TheVariants.{Characters, Line}
-use Rattle.py_read_text.specs.Owing.{IsJoined, WriteMovesBy, GaveOwn, Starves, KeepsOpen, Closes, given_by}
+use Rattle.py_read_text.specs.Owing.{IsJoined, WriteMovesBy, FailedWithOwn, Starves, KeepsOpen, Closes, given_by}
 use Rattle.py_read_text.proofs.Calling.{Passing, faulted_life, passes_accepted, fails_still, wait_step, fault_step, starve_step}
 use Rattle.py_read_text.proofs.Owing.{owes_none, has_own, owing_open}
 use Rattle.py_read_text.specs.Knowing.{place_of}
-use Rattle.py_read_text.specs.Answers.{calls_nothing, passes_on, IsReplyTo, IsComplete, IsShort, PlaceMoves, WriteMoves, LifeMoves, settings_after, closes_again, WantsMemory, TextPasses, TextKeeps, Answers}
+use Rattle.py_read_text.specs.Answers.{calls_nothing, passes_on, IsReplyTo, IsComplete, IsShort, PlaceMoves, WriteMoves, LifeMoves, settings_after, closes_again, WantsMemory, TextPasses, TextKeeps, TextHolds, TextBlames, Answers}
 use Rattle.py_read_text.specs.Reading.{call_of, asks_none}
 use Rattle.py_read_text.proofs.Steps.{accepts, works, waited_by}
 use Rattle.py_read_text.proofs.Results.{faults_step, starves_step}
@@ -44,6 +44,8 @@ pub record Ends (call : TextFileCall) (reply : FileReply) (short : Bool) : Type 
   pub calm : short ≡ false → says_fault reply ≡ false → IsComplete call reply short
   pub passes : (before after : _) → TextPasses before call reply after
   pub kept : (after : _) → TextKeeps call reply after
+  pub holds : (before after : _) → TextHolds before call reply after
+  pub blames : (own : TextPlace) (far : ℕ) → TextBlames call reply own far
   pub moves : (from to : ℕ) → WriteMovesBy call 0 from to
   pub closes : (current : Life) (before after : Buffer) → KeepsOpen before after → Closes current call before reply after
 
@@ -71,6 +73,7 @@ ends_work old call reply new short owes ends accepted hands there left current j
   life_is = current;
   place = subst (λ (own : TextPlace). PlaceMoves call short reply (place_now old) new.text.buffer.place own) (sym hands.place) (ends.place (place_now old) new.text.buffer.place);
   written = subst (λ (own : TextPlace). WriteMoves old.text.settings call reply (place_now old) own) (sym hands.place) (ends.written old.text.settings (place_now old));
+  blames = ends.blames (place_now old) new.text.buffer.place;
   joined = joined;
   owes = owes_none (over_of old) call (over_of new) (ends.moves (place_now old).at (place_now new).at) hands.owes;
   lays = lays_given (over_of old) (given_by old.text.settings call) (over_of new) hands.lays;
@@ -89,6 +92,7 @@ ends_work old call reply new short owes ends accepted hands there left current j
   passes = ends.passes (state_of old false) (state_of new short);
   by_own = moves_on call (over_of old) (over_of new) (over_of new) (behind_still old new owes.stood there hands.place) (stays_put call (over_of new));
   kept = ends.kept (state_of new short);
+  holds = ends.holds (over_of old) (over_of new);
 }
   where
     by_short : (waited faulted : Bool) → short ≡ waited → says_fault reply ≡ faulted → rose old.text.buffer.raw.waits new.text.buffer.raw.waits ≡ false → rose old.text.buffer.raw.faults new.text.buffer.raw.faults ≡ false → IsComplete call reply short
@@ -106,19 +110,19 @@ some_asked : (asked : Wanted) → asks_none asked ≡ false → calls_nothing (c
 some_asked asked some = grind arith
 
 unready_ends : (asked : Wanted) → asks_none asked ≡ false → Ends (call_of asked) NotReady true
-unready_ends (Characters None) some = record { once = refl; some = some_asked (Characters None) some; shorts = refl; settings = λ own. refl; place = λ own end. refl; written = λ settings own. tt; answer = tt; calm = λ is. absurd (cc); passes = λ before after. tt; kept = λ after. tt; moves = λ from to. tt; closes = λ current before after kept. tt }
-unready_ends (Characters (Some size)) some = record { once = refl; some = some_asked (Characters (Some size)) some; shorts = refl; settings = λ own. refl; place = λ own end. refl; written = λ settings own. tt; answer = tt; calm = λ is. absurd (cc); passes = λ before after. tt; kept = λ after. tt; moves = λ from to. tt; closes = λ current before after kept. tt }
-unready_ends (Line limit) some = record { once = refl; some = some_asked (Line limit) some; shorts = refl; settings = λ own. refl; place = λ own end. refl; written = λ settings own. tt; answer = tt; calm = λ is. absurd (cc); passes = λ before after. tt; kept = λ after. tt; moves = λ from to. tt; closes = λ current before after kept. tt }
+unready_ends (Characters None) some = record { once = refl; some = some_asked (Characters None) some; shorts = refl; settings = λ own. refl; place = λ own end. refl; written = λ settings own. tt; answer = tt; calm = λ is. absurd (cc); passes = λ before after. tt; kept = λ after. tt; holds = λ before after. tt; blames = λ own far. tt; moves = λ from to. tt; closes = λ current before after kept. tt }
+unready_ends (Characters (Some size)) some = record { once = refl; some = some_asked (Characters (Some size)) some; shorts = refl; settings = λ own. refl; place = λ own end. refl; written = λ settings own. tt; answer = tt; calm = λ is. absurd (cc); passes = λ before after. tt; kept = λ after. tt; holds = λ before after. tt; blames = λ own far. tt; moves = λ from to. tt; closes = λ current before after kept. tt }
+unready_ends (Line limit) some = record { once = refl; some = some_asked (Line limit) some; shorts = refl; settings = λ own. refl; place = λ own end. refl; written = λ settings own. tt; answer = tt; calm = λ is. absurd (cc); passes = λ before after. tt; kept = λ after. tt; holds = λ before after. tt; blames = λ own far. tt; moves = λ from to. tt; closes = λ current before after kept. tt }
 
 fault_ends : (asked : Wanted) → asks_none asked ≡ false → Ends (call_of asked) (Refused fault.RawFault) false
-fault_ends (Characters None) some = record { once = refl; some = some_asked (Characters None) some; shorts = refl; settings = λ own. refl; place = λ own end. refl; written = λ settings own. tt; answer = tt; calm = λ is fails. absurd (cc); passes = λ before after. tt; kept = λ after. tt; moves = λ from to. tt; closes = λ current before after kept. tt }
-fault_ends (Characters (Some size)) some = record { once = refl; some = some_asked (Characters (Some size)) some; shorts = refl; settings = λ own. refl; place = λ own end. refl; written = λ settings own. tt; answer = tt; calm = λ is fails. absurd (cc); passes = λ before after. tt; kept = λ after. tt; moves = λ from to. tt; closes = λ current before after kept. tt }
-fault_ends (Line limit) some = record { once = refl; some = some_asked (Line limit) some; shorts = refl; settings = λ own. refl; place = λ own end. refl; written = λ settings own. tt; answer = tt; calm = λ is fails. absurd (cc); passes = λ before after. tt; kept = λ after. tt; moves = λ from to. tt; closes = λ current before after kept. tt }
+fault_ends (Characters None) some = record { once = refl; some = some_asked (Characters None) some; shorts = refl; settings = λ own. refl; place = λ own end. refl; written = λ settings own. tt; answer = tt; calm = λ is fails. absurd (cc); passes = λ before after. tt; kept = λ after. tt; holds = λ before after. tt; blames = λ own far. tt; moves = λ from to. tt; closes = λ current before after kept. tt }
+fault_ends (Characters (Some size)) some = record { once = refl; some = some_asked (Characters (Some size)) some; shorts = refl; settings = λ own. refl; place = λ own end. refl; written = λ settings own. tt; answer = tt; calm = λ is fails. absurd (cc); passes = λ before after. tt; kept = λ after. tt; holds = λ before after. tt; blames = λ own far. tt; moves = λ from to. tt; closes = λ current before after kept. tt }
+fault_ends (Line limit) some = record { once = refl; some = some_asked (Line limit) some; shorts = refl; settings = λ own. refl; place = λ own end. refl; written = λ settings own. tt; answer = tt; calm = λ is fails. absurd (cc); passes = λ before after. tt; kept = λ after. tt; holds = λ before after. tt; blames = λ own far. tt; moves = λ from to. tt; closes = λ current before after kept. tt }
 
 memory_ends : (asked : Wanted) → asks_none asked ≡ false → Ends (call_of asked) (Refused fault.NoMemory) false
-memory_ends (Characters None) some = record { once = refl; some = some_asked (Characters None) some; shorts = refl; settings = λ own. refl; place = λ own end. refl; written = λ settings own. tt; answer = tt; calm = λ is fails. record { answer = tt; whole = refl }; passes = λ before after. tt; kept = λ after. tt; moves = λ from to. tt; closes = λ current before after kept. tt }
-memory_ends (Characters (Some size)) some = record { once = refl; some = some_asked (Characters (Some size)) some; shorts = refl; settings = λ own. refl; place = λ own end. refl; written = λ settings own. tt; answer = tt; calm = λ is fails. record { answer = tt; whole = refl }; passes = λ before after. tt; kept = λ after. tt; moves = λ from to. tt; closes = λ current before after kept. tt }
-memory_ends (Line limit) some = record { once = refl; some = some_asked (Line limit) some; shorts = refl; settings = λ own. refl; place = λ own end. refl; written = λ settings own. tt; answer = tt; calm = λ is fails. record { answer = tt; whole = refl }; passes = λ before after. tt; kept = λ after. tt; moves = λ from to. tt; closes = λ current before after kept. tt }
+memory_ends (Characters None) some = record { once = refl; some = some_asked (Characters None) some; shorts = refl; settings = λ own. refl; place = λ own end. refl; written = λ settings own. tt; answer = tt; calm = λ is fails. record { answer = tt; whole = refl }; passes = λ before after. tt; kept = λ after. tt; holds = λ before after. tt; blames = λ own far. tt; moves = λ from to. tt; closes = λ current before after kept. tt }
+memory_ends (Characters (Some size)) some = record { once = refl; some = some_asked (Characters (Some size)) some; shorts = refl; settings = λ own. refl; place = λ own end. refl; written = λ settings own. tt; answer = tt; calm = λ is fails. record { answer = tt; whole = refl }; passes = λ before after. tt; kept = λ after. tt; holds = λ before after. tt; blames = λ own far. tt; moves = λ from to. tt; closes = λ current before after kept. tt }
+memory_ends (Line limit) some = record { once = refl; some = some_asked (Line limit) some; shorts = refl; settings = λ own. refl; place = λ own end. refl; written = λ settings own. tt; answer = tt; calm = λ is fails. record { answer = tt; whole = refl }; passes = λ before after. tt; kept = λ after. tt; holds = λ before after. tt; blames = λ own far. tt; moves = λ from to. tt; closes = λ current before after kept. tt }
 
 wants_nothing : (asked : Wanted) (reply : FileReply) (buffer : Buffer) → WantsMemory (call_of asked) reply buffer
 wants_nothing (Characters size) reply buffer = tt
@@ -147,28 +151,28 @@ read_fails old new asked owes can some hands there failed joined =
     answers_work old (call_of asked) (Refused fault.RawFault) new false (ends_work old (call_of asked) (Refused fault.RawFault) new false owes (fault_ends asked some) (accepts (file_now old) asked owes.live can) hands there (λ is. absurd (cc)) (failed_life asked old.life new.life failed) joined tt (wants_nothing asked (Refused fault.RawFault) old.text.buffer)
     (λ told. faults_step (file_now old) (file_now new) asked owes.live can failed (hands.bytes told) hands.calls.keeps.can hands.settings))
 
-pub read_starves : (old new : WrittenView) (asked : Wanted) → Owes old → old.text.buffer.can.readable ≡ true → asks_none asked ≡ false → HandsOn old false false new → new.text.at ≡ new.text.buffer.place → (new.life ≡ life.Live) ⊎ ((new.life ≡ life.Failed) × GaveOwn (over_of old) (over_of new)) → IsJoined (over_of new) → Answers (state_of old false) (call_of asked) (Refused fault.NoMemory) (state_of new false)
+pub read_starves : (old new : WrittenView) (asked : Wanted) → Owes old → old.text.buffer.can.readable ≡ true → asks_none asked ≡ false → HandsOn old false false new → new.text.at ≡ new.text.buffer.place → (new.life ≡ life.Live) ⊎ ((new.life ≡ life.Failed) × FailedWithOwn (over_of old) (over_of new)) → IsJoined (over_of new) → Answers (state_of old false) (call_of asked) (Refused fault.NoMemory) (state_of new false)
 read_starves old new asked owes can some hands there (inl lives) joined =
     let current : new.life ≡ old.life = lives ∙ sym owes.live in
     answers_work old (call_of asked) (Refused fault.NoMemory) new false (ends_work old (call_of asked) (Refused fault.NoMemory) new false owes (memory_ends asked some) (accepts (file_now old) asked owes.live can) hands there (λ is. absurd (cc)) (inl current) joined (starved_not old new (call_of asked) hands current) (wants_nothing asked (Refused fault.NoMemory) old.text.buffer)
     (λ told. starves_step (file_now old) (file_now new) asked owes.live can (handed_file old new false false hands current told)))
 read_starves old new asked owes can some hands there (inr failed) joined =
-    answers_work old (call_of asked) (Refused fault.NoMemory) new false (ends_work old (call_of asked) (Refused fault.NoMemory) new false owes (memory_ends asked some) (accepts (file_now old) asked owes.live can) hands there (λ is. absurd (cc)) (inr (refl, failed.0)) joined (inr (failed.0, has_own (over_of old) (call_of asked) owes.some, failed.1)) (wants_nothing asked (Refused fault.NoMemory) old.text.buffer)
+    answers_work old (call_of asked) (Refused fault.NoMemory) new false (ends_work old (call_of asked) (Refused fault.NoMemory) new false owes (memory_ends asked some) (accepts (file_now old) asked owes.live can) hands there (λ is. absurd (cc)) (inr (refl, failed.0)) joined (inr (failed.0, has_own (over_of old) (call_of asked) owes.some, inl failed.1)) (wants_nothing asked (Refused fault.NoMemory) old.text.buffer)
     (λ told. midway_read (file_now old) (file_now new) asked owes.live can owes.writes (fails_still (file_now old) (file_now new) life.Failed failed.0 (hands.bytes told) hands.calls.keeps.can hands.settings)))
 
 -- Flushing and closing.
 
 wait_ends : (closes : Bool) → Ends (Passing closes) (Refused (fault.WouldBlock 0)) true
-wait_ends true = record { once = refl; some = refl; shorts = refl; settings = λ own. refl; place = λ own end. refl; written = λ settings own. tt; answer = (refl, refl); calm = λ is fails. absurd (cc); passes = λ before after. tt; kept = λ after. tt; moves = λ from to. tt; closes = λ current before after kept. tt }
-wait_ends false = record { once = refl; some = refl; shorts = refl; settings = λ own. refl; place = λ own end. refl; written = λ settings own. tt; answer = (refl, refl); calm = λ is fails. absurd (cc); passes = λ before after. tt; kept = λ after. tt; moves = λ from to. tt; closes = λ current before after kept. tt }
+wait_ends true = record { once = refl; some = refl; shorts = refl; settings = λ own. refl; place = λ own end. refl; written = λ settings own. tt; answer = (refl, refl); calm = λ is fails. absurd (cc); passes = λ before after. tt; kept = λ after. tt; holds = λ before after. tt; blames = λ own far. tt; moves = λ from to. tt; closes = λ current before after kept. tt }
+wait_ends false = record { once = refl; some = refl; shorts = refl; settings = λ own. refl; place = λ own end. refl; written = λ settings own. tt; answer = (refl, refl); calm = λ is fails. absurd (cc); passes = λ before after. tt; kept = λ after. tt; holds = λ before after. tt; blames = λ own far. tt; moves = λ from to. tt; closes = λ current before after kept. tt }
 
 passing_faults : (closes : Bool) → Ends (Passing closes) (Refused fault.RawFault) false
-passing_faults true = record { once = refl; some = refl; shorts = refl; settings = λ own. refl; place = λ own end. refl; written = λ settings own. tt; answer = tt; calm = λ is fails. absurd (cc); passes = λ before after. tt; kept = λ after. tt; moves = λ from to. tt; closes = λ current before after kept. kept.attached }
-passing_faults false = record { once = refl; some = refl; shorts = refl; settings = λ own. refl; place = λ own end. refl; written = λ settings own. tt; answer = tt; calm = λ is fails. absurd (cc); passes = λ before after. tt; kept = λ after. tt; moves = λ from to. tt; closes = λ current before after kept. tt }
+passing_faults true = record { once = refl; some = refl; shorts = refl; settings = λ own. refl; place = λ own end. refl; written = λ settings own. tt; answer = tt; calm = λ is fails. absurd (cc); passes = λ before after. tt; kept = λ after. tt; holds = λ before after. tt; blames = λ own far. tt; moves = λ from to. tt; closes = λ current before after kept. kept.attached }
+passing_faults false = record { once = refl; some = refl; shorts = refl; settings = λ own. refl; place = λ own end. refl; written = λ settings own. tt; answer = tt; calm = λ is fails. absurd (cc); passes = λ before after. tt; kept = λ after. tt; holds = λ before after. tt; blames = λ own far. tt; moves = λ from to. tt; closes = λ current before after kept. tt }
 
 passing_starves : (closes : Bool) → Ends (Passing closes) (Refused fault.NoMemory) false
-passing_starves true = record { once = refl; some = refl; shorts = refl; settings = λ own. refl; place = λ own end. refl; written = λ settings own. tt; answer = tt; calm = λ is fails. record { answer = tt; whole = refl }; passes = λ before after. tt; kept = λ after. tt; moves = λ from to. tt; closes = λ current before after kept. tt }
-passing_starves false = record { once = refl; some = refl; shorts = refl; settings = λ own. refl; place = λ own end. refl; written = λ settings own. tt; answer = tt; calm = λ is fails. record { answer = tt; whole = refl }; passes = λ before after. tt; kept = λ after. tt; moves = λ from to. tt; closes = λ current before after kept. tt }
+passing_starves true = record { once = refl; some = refl; shorts = refl; settings = λ own. refl; place = λ own end. refl; written = λ settings own. tt; answer = tt; calm = λ is fails. record { answer = tt; whole = refl }; passes = λ before after. tt; kept = λ after. tt; holds = λ before after. tt; blames = λ own far. tt; moves = λ from to. tt; closes = λ current before after kept. tt }
+passing_starves false = record { once = refl; some = refl; shorts = refl; settings = λ own. refl; place = λ own end. refl; written = λ settings own. tt; answer = tt; calm = λ is fails. record { answer = tt; whole = refl }; passes = λ before after. tt; kept = λ after. tt; holds = λ before after. tt; blames = λ own far. tt; moves = λ from to. tt; closes = λ current before after kept. tt }
 
 passing_life : (closes : Bool) (before after : Life) → after ≡ faulted_life closes → LifeMoves true (Passing closes) (Refused fault.RawFault) before after
 passing_life true before after is = is
@@ -201,18 +205,18 @@ passing_failed old new closes owes hands there failed joined =
     answers_work old (Passing closes) (Refused fault.RawFault) new false (ends_work old (Passing closes) (Refused fault.RawFault) new false owes (passing_faults closes) (passes_accepted (file_now old) closes owes.live) hands there (λ is. absurd (cc)) (passing_life closes old.life new.life failed) joined tt (fault_wants closes old.text.buffer)
     (λ told. fault_step (file_now old) (file_now new) closes owes.live (fails_still (file_now old) (file_now new) (faulted_life closes) failed (hands.bytes told) hands.calls.keeps.can hands.settings)))
 
-pub passing_starved : (old new : WrittenView) (closes : Bool) → Owes old → HandsOn old false false new → new.text.at ≡ new.text.buffer.place → IsTrue old.text.buffer.raw.takes_memory → (new.life ≡ life.Live) ⊎ ((new.life ≡ life.Failed) × GaveOwn (over_of old) (over_of new)) → IsJoined (over_of new) → Answers (state_of old false) (Passing closes) (Refused fault.NoMemory) (state_of new false)
+pub passing_starved : (old new : WrittenView) (closes : Bool) → Owes old → HandsOn old false false new → new.text.at ≡ new.text.buffer.place → IsTrue old.text.buffer.raw.takes_memory → (new.life ≡ life.Live) ⊎ ((new.life ≡ life.Failed) × FailedWithOwn (over_of old) (over_of new)) → IsJoined (over_of new) → Answers (state_of old false) (Passing closes) (Refused fault.NoMemory) (state_of new false)
 passing_starved old new closes owes hands there takes (inl lives) joined =
     let current : new.life ≡ old.life = lives ∙ sym owes.live in
     answers_work old (Passing closes) (Refused fault.NoMemory) new false (ends_work old (Passing closes) (Refused fault.NoMemory) new false owes (passing_starves closes) (passes_accepted (file_now old) closes owes.live) hands there (λ is. absurd (cc)) (inl current) joined (starved_not old new (Passing closes) hands current) (wants_raw closes old.text.buffer takes)
     (λ told. starve_step (file_now old) (file_now new) closes owes.live (inl (handed_file old new false false hands current told))))
 passing_starved old new closes owes hands there takes (inr failed) joined =
-    answers_work old (Passing closes) (Refused fault.NoMemory) new false (ends_work old (Passing closes) (Refused fault.NoMemory) new false owes (passing_starves closes) (passes_accepted (file_now old) closes owes.live) hands there (λ is. absurd (cc)) (inr (refl, failed.0)) joined (inr (failed.0, has_own (over_of old) (Passing closes) owes.some, failed.1)) (wants_raw closes old.text.buffer takes)
+    answers_work old (Passing closes) (Refused fault.NoMemory) new false (ends_work old (Passing closes) (Refused fault.NoMemory) new false owes (passing_starves closes) (passes_accepted (file_now old) closes owes.live) hands there (λ is. absurd (cc)) (inr (refl, failed.0)) joined (inr (failed.0, has_own (over_of old) (Passing closes) owes.some, inl failed.1)) (wants_raw closes old.text.buffer takes)
     (λ told. starve_step (file_now old) (file_now new) closes owes.live (inr (owes.writes, fails_still (file_now old) (file_now new) life.Failed failed.0 (hands.bytes told) hands.calls.keeps.can hands.settings))))
 
 -- By what stopped the handing on.
 
-starved_life : (old new : WrittenView) → TakesNothing old new ⊎ ((new.life ≡ life.Failed) × (old.text.buffer.can.writable ≡ true) × GaveOwn (over_of old) (over_of new)) → (new.life ≡ life.Live) ⊎ ((new.life ≡ life.Failed) × GaveOwn (over_of old) (over_of new))
+starved_life : (old new : WrittenView) → TakesNothing old new ⊎ ((new.life ≡ life.Failed) × (old.text.buffer.can.writable ≡ true) × FailedWithOwn (over_of old) (over_of new)) → (new.life ≡ life.Live) ⊎ ((new.life ≡ life.Failed) × FailedWithOwn (over_of old) (over_of new))
 starved_life old new (inl nothing) = inl nothing.lives
 starved_life old new (inr failed) = inr (failed.0, failed.2)
 

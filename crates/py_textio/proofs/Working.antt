@@ -21,6 +21,7 @@ answers_work old call reply new short works = record {
     place = works.place;
     written = works.written;
   };
+  blames = works.blames;
   joined = works.joined;
   owes = works.owes;
   lays = works.lays;
@@ -42,4 +43,5 @@ answers_work old call reply new short works = record {
   passes = works.passes;
   by_own = works.by_own;
   kept = works.kept;
+  holds = works.holds;
 }

@@ -28,13 +28,13 @@ use Rattle.py_stream.specs.Kinds.{says_wait}
 use Rattle.py_stream.specs.Buffer.{Buffer, WhereShown, flat_of}
 use Rattle.py_read_text.specs.Knowing.{place_of}
 use Rattle.py_read_text.proofs.Placing.{not_far}
-use Rattle.py_read_text.specs.Owing.{all_owed, IsJoined, PassesOwed, OwesOn, own_from, HasOwn, GaveOwn, StopsOwing, all_from, LaysFront, LaysOwed}
+use Rattle.py_read_text.specs.Owing.{all_owed, IsJoined, PassesOwed, OwesOn, own_from, HasOwn, has_line_end, flushes_behind, GaveOwn, StopsOwing, all_from, LaysFront, LaysOwed}
 use Rattle.py_read_text.proofs.Owing.{passes_then, passes_behind, owes_none, open_then, owing_open}
-use Rattle.py_read_text.specs.Answers.{further, IsPassedOn, KeepsFew, has_line_end, Answers}
-use Rattle.py_textio.specs.Written.{WrittenView, behind_owed, place_now, over_of, state_of, file_now, HandsOnBut, HandsOn, TookText, GoesBack, BackOutcome, LetsGo, HandOutcome}
+use Rattle.py_read_text.specs.Answers.{further, IsPassedOn, KeepsFew, TextHolds, Answers}
+use Rattle.py_textio.specs.Written.{WrittenView, behind_owed, place_now, over_of, state_of, file_now, HandsOnBut, HandsOn, TookText, GoesBack, BackOutcome, LetsGo, HandOutcome, KeepsOwed}
 use Rattle.py_textio.proofs.Ended.{ended-some}
 use Rattle.py_textio.proofs.Refusing.{refused}
-use Rattle.py_textio.proofs.Settling.{clean_place, own_from_is, both_true}
+use Rattle.py_textio.proofs.Settling.{behind_so, clean_place, own_from_is, both_true}
 use Rattle.py_textio.proofs.Working.{answers_work}
 use Rattle.py_textio.proofs.Over.{calls_on, handed_file}
 use Rattle.py_read_text.proofs.Calling.{fails_still}
@@ -103,8 +103,8 @@ count_step file after text count accepted counts same =
 
 -- the fields that every write has
 
-pub wrote : (old new : WrittenView) (text : List ℕ) (count : ℕ) → MayWrite old text → TookText old (own_bytes old text) false false new → new.life ≡ life.Live → IsJoined (over_of new) → count ≡ length text → KeepsFew (state_of new false) → (old.text.settings.line_buffering ≡ true → has_line_end text ≡ true → IsPassedOn (state_of new false)) → Answers (state_of old false) (WriteText text) (Count count) (state_of new false)
-wrote old new text count may took lives joined counts few passed =
+pub wrote : (old new : WrittenView) (text : List ℕ) (count : ℕ) → MayWrite old text → TookText old (own_bytes old text) false false new → new.life ≡ life.Live → IsJoined (over_of new) → count ≡ length text → KeepsFew (state_of new false) → (old.text.settings.line_buffering ≡ true → has_line_end text ≡ true → IsPassedOn (state_of new false)) → TextHolds (over_of old) (WriteText text) (Count count) (over_of new) → Answers (state_of old false) (WriteText text) (Count count) (state_of new false)
+wrote old new text count may took lives joined counts few passed holds =
     let current : new.life ≡ old.life = lives ∙ sym may.live in
     answers_work old (WriteText text) (Count count) new false (record {
       accepted = may.accepted;
@@ -118,6 +118,7 @@ wrote old new text count may took lives joined counts few passed =
       life_is = current;
       place = tt;
       written = took.place;
+      blames = tt;
       joined = joined;
       owes = owes_took old new text false false took;
       lays = took.lays;
@@ -136,6 +137,7 @@ wrote old new text count may took lives joined counts few passed =
       passes = passed;
       by_own = tt;
       kept = few;
+      holds = holds;
     })
 
 pub wrote_blocked : (old new : WrittenView) (text : List ℕ) (taken : ℕ) → MayWrite old text → TookText old (own_bytes old text) true false new → new.life ≡ life.Live → IsJoined (over_of new) → taken ≡ length (own_bytes old text) → StopsOwing false (over_of new) → Answers (state_of old false) (WriteText text) (Refused (fault.WouldBlock taken)) (state_of new true)
@@ -153,6 +155,7 @@ wrote_blocked old new text taken may took lives joined counts stops =
       life_is = current;
       place = tt;
       written = (counts, took.place ∙ ap (further (place_now old)) (sym counts));
+      blames = tt;
       joined = joined;
       owes = owes_took old new text true false took;
       lays = took.lays;
@@ -171,6 +174,7 @@ wrote_blocked old new text taken may took lives joined counts stops =
       passes = tt;
       by_own = tt;
       kept = tt;
+      holds = tt;
     })
 
 pub wrote_failed : (old new : WrittenView) (text : List ℕ) → MayWrite old text → TookText old (own_bytes old text) false true new → new.life ≡ life.Failed → IsJoined (over_of new) → Answers (state_of old false) (WriteText text) (Refused fault.RawFault) (state_of new false)
@@ -188,6 +192,7 @@ wrote_failed old new text may took failed joined =
       life_is = failed;
       place = tt;
       written = inr took.place;
+      blames = tt;
       joined = joined;
       owes = owes_took old new text false true took;
       lays = took.lays;
@@ -206,12 +211,13 @@ wrote_failed old new text may took failed joined =
       passes = tt;
       by_own = tt;
       kept = tt;
+      holds = tt;
     })
   where
     whole_fails : (old new : WrittenView) (bytes : List ℕ) (current : Life) → new.life ≡ current → (file_now new).bytes ≡ lay (file_now old).bytes (place_now old).at bytes → new.text.buffer.can ≡ old.text.buffer.can → new.text.settings ≡ old.text.settings → Fails (file_now old) current (lay (file_now old).bytes (place_now old).at (take (length bytes) bytes)) (file_now new)
     whole_fails old new bytes current is laid can settings = record { life_is = is; bytes_are = laid ∙ ap (lay (file_now old).bytes (place_now old).at) (sym (take_all (length bytes) bytes (omega arith))); can = can; settings = settings }
 
-pub wrote_starved : (old new : WrittenView) (text : List ℕ) → MayWrite old text → TookText old (own_bytes old text) false false new → new.life ≡ life.Failed → HasOwn (over_of old) (WriteText text) → GaveOwn (over_of old) (over_of new) → IsJoined (over_of new) → Answers (state_of old false) (WriteText text) (Refused fault.NoMemory) (state_of new false)
+pub wrote_starved : (old new : WrittenView) (text : List ℕ) → MayWrite old text → TookText old (own_bytes old text) false false new → new.life ≡ life.Failed → HasOwn (over_of old) (WriteText text) → GaveOwn (flushes_behind old.text.settings (WriteText text)) (over_of old) (over_of new) → IsJoined (over_of new) → Answers (state_of old false) (WriteText text) (Refused fault.NoMemory) (state_of new false)
 wrote_starved old new text may took failed has gave joined =
     let bytes : List ℕ = own_bytes old text in
     answers_work old (WriteText text) (Refused fault.NoMemory) new false (record {
@@ -226,6 +232,7 @@ wrote_starved old new text may took failed has gave joined =
       life_is = inr (refl, failed);
       place = tt;
       written = inr took.place;
+      blames = tt;
       joined = joined;
       owes = owes_took old new text false false took;
       lays = took.lays;
@@ -244,6 +251,7 @@ wrote_starved old new text may took failed has gave joined =
       passes = tt;
       by_own = tt;
       kept = tt;
+      holds = tt;
     })
 
 -- Nothing written.
@@ -266,6 +274,7 @@ unwritten_failed old new text may hands failed joined =
       life_is = failed;
       place = tt;
       written = inl hands.place;
+      blames = tt;
       joined = joined;
       owes = owes_not old new text false true hands;
       lays = lays_given (over_of old) (own_bytes old text) (over_of new) hands.lays;
@@ -284,6 +293,7 @@ unwritten_failed old new text may hands failed joined =
       passes = tt;
       by_own = tt;
       kept = tt;
+      holds = tt;
     })
 
 pub unwritten_starved : (old new : WrittenView) (text : List ℕ) → MayWrite old text → HandsOnBut (own_bytes old text) old false false new → new.life ≡ life.Live → IsJoined (over_of new) → Answers (state_of old false) (WriteText text) (Refused fault.NoMemory) (state_of new false)
@@ -301,6 +311,7 @@ unwritten_starved old new text may hands lives joined =
       life_is = inl current;
       place = tt;
       written = inl hands.place;
+      blames = tt;
       joined = joined;
       owes = owes_not old new text false false hands;
       lays = hands.lays;
@@ -319,6 +330,7 @@ unwritten_starved old new text may hands lives joined =
       passes = tt;
       by_own = tt;
       kept = tt;
+      holds = tt;
     })
 
 -- What refuses a write.
@@ -439,15 +451,15 @@ let_go_so old mid new bytes room count back counts lets =
     }
 
 -- bytes that went on of a text that went back and had more put behind what it owed
-gave_put : (old mid : WrittenView) (bytes : List ℕ) (room : ℕ) (new : TextOver Buffer) → GoesBack old mid → GaveOwn (over_of (with_bytes mid bytes room)) new → GaveOwn (over_of old) new
-gave_put old mid bytes room new back gave = by_gave gave
+gave_put : (old mid : WrittenView) (bytes : List ℕ) (room : ℕ) (flushes : Bool) (new : TextOver Buffer) → GoesBack old mid → GaveOwn flushes (over_of (with_bytes mid bytes room)) new → GaveOwn flushes (over_of old) new
+gave_put old mid bytes room flushes new back gave = by_gave gave
   where
     from : own_from (over_of old) ≡ own_from (over_of (with_bytes mid bytes room))
     from = omega (arith, own_from_is (with_bytes mid bytes room), own_from_is mid, ap (λ (place : TextPlace). place.at) back.hands.place, ap length back.pending)
 
-    by_gave : GaveOwn (over_of (with_bytes mid bytes room)) new → GaveOwn (over_of old) new
-    by_gave (inl further) = inl (omega (arith, further, from))
-    by_gave (inr took) = inr (
+    by_gave : GaveOwn flushes (over_of (with_bytes mid bytes room)) new → GaveOwn flushes (over_of old) new
+    by_gave (inr all) = inr (all.0, record { further = omega (arith, all.1.further, from); none = all.1.none })
+    by_gave (inl took) = inl (
       took.0,
       record {
         further = omega (arith, took.1.further, from);
@@ -462,14 +474,24 @@ written_on old mid new text room count (fault.WouldBlock taken) may back counts 
 written_on old mid new text room count fault.RawFault may back counts outcome joined =
     wrote_failed old new text may (put_then old mid new (own_bytes old text) room false true back outcome.0) outcome.1 joined
 written_on old mid new text room count fault.NoMemory may back counts (inl outcome) joined =
-    wrote_starved old new text may (put_then old mid new (own_bytes old text) room false false back outcome.0) outcome.1 (λ none. outcome.2 (ap (λ (owed : List ℕ). owed ++ own_bytes old text) back.pending ∙ none)) (gave_put old mid (own_bytes old text) room (over_of new) back outcome.3) joined
+    wrote_starved old new text may (put_then old mid new (own_bytes old text) room false false back outcome.0) outcome.1 (λ none. outcome.2 (ap (λ (owed : List ℕ). owed ++ own_bytes old text) back.pending ∙ none)) (gave_put old mid (own_bytes old text) room (old.text.settings.line_buffering && has_line_end text) (over_of new) back outcome.3) joined
 written_on old mid new text room count fault.NoMemory may back counts (inr lets) joined =
     unwritten_starved old new text may (let_go_so old mid new (own_bytes old text) room count back counts lets) lets.lives joined
 written_on old mid new text room count other may back counts outcome joined = absurd outcome
 
-pub written_all : (old mid new : WrittenView) (text : List ℕ) (room count chars : ℕ) → MayWrite old text → GoesBack old mid → chars ≡ length text → HandOutcome (with_bytes mid (own_bytes old text) room) count (old.text.settings.line_buffering && has_line_end text) (Ok tt) new → IsJoined (over_of new) → Answers (state_of old false) (WriteText text) (Count chars) (state_of new false)
-written_all old mid new text room count chars may back counts outcome joined =
-    wrote old new text chars may (put_then old mid new (own_bytes old text) room false false back outcome.0) outcome.1 joined counts outcome.2 (λ lines ends. outcome.3 (both_true old.text.settings.line_buffering (has_line_end text) lines ends))
+-- nothing was handed on that needn't be
+holds_put : (old mid new : WrittenView) (text : List ℕ) (room count : ℕ) → GoesBack old mid → KeepsOwed (with_bytes mid (own_bytes old text) room) (old.text.settings.line_buffering && has_line_end text) (Ok tt) new → TextHolds (over_of old) (WriteText text) (Count count) (over_of new)
+holds_put old mid new text room count back keeps = λ through flushes few.
+    let less : length (mid.pending ++ own_bytes old text) < mid.text.settings.chunk_size = omega (arith, few, ap (λ (owed : List ℕ). length (owed ++ own_bytes old text)) back.pending, ap (λ (settings : TextSettings). settings.chunk_size) back.hands.settings) in
+    let same : new ≡ with_bytes mid (own_bytes old text) room = keeps (ap (λ (settings : TextSettings). settings.write_through) back.hands.settings ∙ through) flushes less in
+    record {
+      own = ap (λ (view : WrittenView). view.pending) same ∙ ap (λ (owed : List ℕ). owed ++ own_bytes old text) back.pending;
+      buffer = λ stands. ap (λ (view : WrittenView). view.text.buffer) same ∙ back.still (omega (arith, stands, ap (λ (place : TextPlace). place.at) (behind_so (place_of old.text) old.pending)));
+    }
+
+pub written_all : (old mid new : WrittenView) (text : List ℕ) (room count chars : ℕ) → MayWrite old text → GoesBack old mid → chars ≡ length text → HandOutcome (with_bytes mid (own_bytes old text) room) count (old.text.settings.line_buffering && has_line_end text) (Ok tt) new → KeepsOwed (with_bytes mid (own_bytes old text) room) (old.text.settings.line_buffering && has_line_end text) (Ok tt) new → IsJoined (over_of new) → Answers (state_of old false) (WriteText text) (Count chars) (state_of new false)
+written_all old mid new text room count chars may back counts outcome keeps joined =
+    wrote old new text chars may (put_then old mid new (own_bytes old text) room false false back outcome.0) outcome.1 joined counts outcome.2 (λ lines ends. outcome.3 (both_true old.text.settings.line_buffering (has_line_end text) lines ends)) (holds_put old mid new text room chars back keeps)
 
 -- nothing of the bytes that are given was handed on
 hands_given : (old new : WrittenView) (given : List ℕ) (waited faulted : Bool) → HandsOn old waited faulted new → HandsOnBut given old waited faulted new
@@ -485,6 +507,9 @@ put_is old mid put text back is = is ∙ ap (λ (settings : TextSettings). with_
 
 pub hand_at : (put other new : WrittenView) (count : ℕ) (flushes flush : Bool) (result : Result (Unit {0}) IoFault) → put ≡ other → flushes ≡ flush → HandOutcome put count flushes result new → HandOutcome other count flush result new
 hand_at put other new count flushes flush result same is outcome = subst (λ (view : WrittenView). HandOutcome view count flush result new) same (subst (λ (own : Bool). HandOutcome put count own result new) is outcome)
+
+pub keeps_at : (put other new : WrittenView) (flushes flush : Bool) (result : Result (Unit {0}) IoFault) → put ≡ other → flushes ≡ flush → KeepsOwed put flushes result new → KeepsOwed other flush result new
+keeps_at put other new flushes flush result same is keeps = subst (λ (view : WrittenView). KeepsOwed view flush result new) same (subst (λ (own : Bool). KeepsOwed put own result new) is keeps)
 
 -- a text with a line end has bytes to hand on
 pub put_some : (old mid put : WrittenView) (text : List ℕ) → put ≡ with_bytes mid (own_bytes old text) put.room → written_refusal old.text.settings text ≡ None → has_line_end text ≡ true → put.pending ≢ []

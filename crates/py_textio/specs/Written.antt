@@ -17,7 +17,7 @@ use Rattle.py_stream.specs.Writing.{IsFull}
 use Rattle.py_stream.specs.Buffer.{Buffer, WhereShown, flat_of, size_shown, stream_shown, KeepsBuffer}
 use Rattle.py_read_text.specs.TextState.{TextState, file_of}
 use Rattle.py_read_text.specs.Knowing.{TextView, place_of, over_of as read_of, IsClean}
-use Rattle.py_read_text.specs.Owing.{all_owed, IsJoined, PassesOwed, LaysOwed, GaveOwn, StopsOwing, KeepsOpen}
+use Rattle.py_read_text.specs.Owing.{all_owed, IsJoined, PassesOwed, LaysOwed, FailedWithOwn, GaveOwn, StopsOwing, KeepsOpen}
 use Rattle.py_read_text.specs.Answers.{further, StandsWhileLive, IsPassedOn, KeepsFew}
 
 -- the text that reads; the bytes that were written and that its buffer hasn't, with room for more; and its life
@@ -108,12 +108,12 @@ abbrev pub IsStuffed : Buffer → Type 0
 IsStuffed buffer = IsFull buffer.owed buffer.place (size_of (stream_shown buffer))
 
 -- the buffer took all that the text owed; or the raw would have blocked, or failed, or memory ran out: what wasn't taken is owed still. Out
--- of memory nothing was taken, but of a text that failed. A buffer that couldn't take all is full
+-- of memory nothing was taken, but of a text that failed with its buffer. A buffer that couldn't take all is full
 abbrev pub SettleOutcome : WrittenView → Result (Unit {0}) IoFault → WrittenView → Type 0
 SettleOutcome old (Ok done) new = HandsOn old false false new × (new.pending ≡ []) × (new.life ≡ life.Live)
 SettleOutcome old (Err (fault.WouldBlock taken)) new = HandsOn old true false new × (new.pending ≢ []) × (new.life ≡ life.Live) × (old.text.buffer.can.writable ≡ true) × IsStuffed new.text.buffer
 SettleOutcome old (Err fault.RawFault) new = HandsOn old false true new × (new.life ≡ life.Failed)
-SettleOutcome old (Err fault.NoMemory) new = HandsOn old false false new × IsTrue old.text.buffer.raw.takes_memory × (TakesNothing old new ⊎ ((new.life ≡ life.Failed) × (old.text.buffer.can.writable ≡ true) × GaveOwn (over_of old) (over_of new)))
+SettleOutcome old (Err fault.NoMemory) new = HandsOn old false false new × IsTrue old.text.buffer.raw.takes_memory × (TakesNothing old new ⊎ ((new.life ≡ life.Failed) × (old.text.buffer.can.writable ≡ true) × FailedWithOwn (over_of old) (over_of new)))
 SettleOutcome old (Err other) new = ⊥
 
 -- what a reading answers where what is owed couldn't be handed on
@@ -143,7 +143,8 @@ abbrev pub RoomFor : WrittenView → ℕ → Option ℕ → Type 0
 RoomFor view bytes (Some count) = (count ≡ bytes) × ((place_now view).at + bytes ≤ greatest_place)
 RoomFor view bytes None = greatest_place < (place_now view).at + bytes
 
--- the buffer stands where what the text owes begins, and owes what it did, and the text stays as it is
+-- the buffer stands where what the text owes begins, and owes what it did, and the text stays as it is; a buffer that stood there is as it
+-- was
 pub record GoesBack (old new : WrittenView) : Type 0 where
   pub hands : HandsOn old false false new
   pub owed : new.text.buffer.owed.bytes ≡ old.text.buffer.owed.bytes
@@ -152,6 +153,7 @@ pub record GoesBack (old new : WrittenView) : Type 0 where
   pub lives : new.life ≡ life.Live
   pub pending : new.pending ≡ old.pending
   pub stands : StandsToWrite new.text
+  pub still : old.text.at ≡ old.text.buffer.place → new.text.buffer ≡ old.text.buffer
 
 -- the buffer of a clean text goes back to where what is owed begins; or the raw failed, or memory ran out, and the text stays as it is
 abbrev pub BackOutcome : WrittenView → Result (Unit {0}) IoFault → WrittenView → Type 0
@@ -188,5 +190,10 @@ abbrev pub HandOutcome : WrittenView → (count : ℕ) → (flushes : Bool) → 
 HandOutcome old count flushes (Ok done) new = HandsOn old false false new × (new.life ≡ life.Live) × KeepsFew (state_of new false) × (flushes ≡ true → IsPassedOn (state_of new false))
 HandOutcome old count flushes (Err (fault.WouldBlock taken)) new = HandsOn old true false new × (new.life ≡ life.Live) × (taken ≡ count) × StopsOwing false (over_of new)
 HandOutcome old count flushes (Err fault.RawFault) new = HandsOn old false true new × (new.life ≡ life.Failed)
-HandOutcome old count flushes (Err fault.NoMemory) new = (HandsOn old false false new × (new.life ≡ life.Failed) × (old.pending ≢ []) × GaveOwn (over_of old) (over_of new)) ⊎ LetsGo old count new
+HandOutcome old count flushes (Err fault.NoMemory) new = (HandsOn old false false new × (new.life ≡ life.Failed) × (old.pending ≢ []) × GaveOwn flushes (over_of old) (over_of new)) ⊎ LetsGo old count new
 HandOutcome old count flushes (Err other) new = ⊥
+
+-- nothing is handed on that needn't be: without write through, of less than a chunk, and where no flush is to follow all is as it was
+abbrev pub KeepsOwed : WrittenView → (flushes : Bool) → Result (Unit {0}) IoFault → WrittenView → Type 0
+KeepsOwed old flushes (Ok done) new = old.text.settings.write_through ≡ false → flushes ≡ false → length old.pending < old.text.settings.chunk_size → new ≡ old
+KeepsOwed old flushes (Err why) new = Unit {0}

@@ -10,10 +10,10 @@ ghost use Rattle.py_flat.specs.Calls.{Refused};
 ghost use Rattle.py_stream.specs.Kinds.{says_wait, says_fault};
 ghost use Rattle.py_stream.specs.Replies.{count_reply, done_reply};
 ghost use Rattle.py_read_text.specs.Reading.{call_of, asks_none, reply_of, waited_in};
-ghost use Rattle.py_read_text.specs.Owing.{IsJoined};
+ghost use Rattle.py_read_text.specs.Owing.{IsJoined, has_line_end};
 ghost use Rattle.py_read_text.specs.Knowing.{over_of as read_of};
-ghost use Rattle.py_read_text.specs.Answers.{Answers, has_line_end};
-ghost use Rattle.py_textio.specs.Written.{over_of, state_of, file_now, place_now, HasRoom, StandsToWrite, SettleOutcome, stopped_reply, with_taken, RoomFor, BackOutcome, PassOutcome, HandOutcome};
+ghost use Rattle.py_read_text.specs.Answers.{Answers};
+ghost use Rattle.py_textio.specs.Written.{over_of, state_of, file_now, place_now, HasRoom, StandsToWrite, SettleOutcome, stopped_reply, with_taken, RoomFor, BackOutcome, PassOutcome, HandOutcome, KeepsOwed};
 
 use py_flat::{IoFault, Life};
 use py_held_text::{Coder, Wanted, drop_front};
@@ -462,6 +462,7 @@ impl<B: BufferedStream> WrittenText<B> {
         requires count { count ≤ length self.old.pending }
         requires some { flushes ≡ true → self.old.pending ≢ [] }
         ensures outcome { HandOutcome self.old count flushes result self.new }
+        ensures keeps { KeepsOwed self.old flushes result self.new }
         ensures joined { IsJoined (over_of self.new) }
     {
         // What holds of every text is known from here on.

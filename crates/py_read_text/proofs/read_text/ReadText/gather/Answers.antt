@@ -4,8 +4,14 @@ use Rattle.py_read_text.specs.Knowing.{TextView}
 use Rattle.py_read_text.specs.Reading.{IsAtEnd, Reads}
 use Rattle.py_read_text.proofs.Fetching.{reads_on}
 use Rattle.py_read_text.proofs.Ahead.{needs_at}
-use Rattle.py_read_text.proofs.Gathering.{fails_there, gathers_more, holds_ended, asks_some, failed, waited, ended}
+use Rattle.py_read_text.proofs.Gathering.{looked, fails_there, gathers_more, holds_ended, asks_some, failed, waited, ended}
 use Rattle.py_read_text.proofs.read_text.ReadText.gather.Goals as goal
+
+pub returns-in-Some-clause-outcome : goal.returns-in-Some-clause-outcome
+returns-in-Some-clause-outcome g c =
+    let at = rw c.in-Some.is at c.in_ok-stop.ensures.outcome in
+    let reads = subst (λ (view : TextView). Reads c.args.self.now.buffer false false view.buffer) (sym c.self-in-loop-stop.view_is) c.loop-stop.invariant.reads in
+    looked c.args.self.now _ c.args.wanted c.in-Some.stop reads at.0 at.1
 
 pub loop-stop-preserved : goal.loop-stop-preserved
 loop-stop-preserved g c =
