@@ -270,9 +270,11 @@ abbrev pub TextKeeps : TextFileCall → FileReply → TextState → Type 0
 TextKeeps (WriteText text) (Count count) after = KeepsFew after
 TextKeeps call reply after = Unit {0}
 
--- bytes that were given stay with the text, behind those that it owed; and a buffer that stood behind these is as it was
+-- bytes that were given stay with the text, behind those that it owed, and its buffer owes what it did; where it wasn't read ahead of the
+-- text it is as it was
 pub record HoldsBack (before : TextOver Buffer) (given : List ℕ) (after : TextOver Buffer) : Type 0 where
   pub own : after.owed ≡ before.owed ++ given
+  pub rest : after.buffer.owed.bytes ≡ before.buffer.owed.bytes
   pub buffer : behind_own before ≡ before.place.at → after.buffer ≡ before.buffer
 
 -- an answered write hands on nothing that it needn't: without write through, where what the text owes and is given is less than a chunk,

@@ -486,6 +486,7 @@ holds_put old mid new text room count back keeps = λ through flushes few.
     let same : new ≡ with_bytes mid (own_bytes old text) room = keeps (ap (λ (settings : TextSettings). settings.write_through) back.hands.settings ∙ through) flushes less in
     record {
       own = ap (λ (view : WrittenView). view.pending) same ∙ ap (λ (owed : List ℕ). owed ++ own_bytes old text) back.pending;
+      rest = ap (λ (view : WrittenView). view.text.buffer.owed.bytes) same ∙ back.owed;
       buffer = λ stands. ap (λ (view : WrittenView). view.text.buffer) same ∙ back.still (omega (arith, stands, ap (λ (place : TextPlace). place.at) (behind_so (place_of old.text) old.pending)));
     }
 
