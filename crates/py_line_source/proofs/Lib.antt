@@ -1,1 +1,1 @@
-mod Chopping
+mod Cutting

@@ -1,8 +1,8 @@
 -- Lines of bytes and of texts, and what is read as a line of a file.
-use Rattle.std.specs.Prelude.{◌≡◌, ℕ, nat_eq, List, [], ◌∷◌, Option, Some, None, Result, Ok, Err, if◌then◌else◌}
+use Rattle.std.specs.Prelude.{◌≡◌, ℕ, Bool, false, ◌&&◌, ◌||◌, nat_eq, List, [], ◌∷◌, Option, Some, None, Result, Ok, Err, if◌then◌else◌}
 use Rattle.py_flat.specs.declared.fault.IoFault.{IoFault}
 use Rattle.py_flat.specs.declared.fault.IoFault.TheVariants as fault
-use Rattle.py_flat.specs.Lines.{lf}
+use Rattle.py_flat.specs.Lines.{LineEnd, Lf, Cr, CrLf, AnyEnd, lf, cr}
 use Rattle.py_flat.specs.Calls as say
 use Rattle.py_flat.specs.Calls.{FileReply}
 use Rattle.py_line_source.specs.declared.line_value.LineValue.{LineValue}
@@ -20,21 +20,41 @@ line_reply (Ok (Some (Text line))) = say.Text line
 line_reply (Ok None) = say.NotReady
 line_reply (Err why) = say.Refused why
 
--- a list without the LF that it ends with
-abbrev pub without_lf : List ℕ → List ℕ
-without_lf [] = []
-without_lf (c ∷ []) = if nat_eq c lf then [] else c ∷ []
-without_lf (c ∷ d ∷ cs) = c ∷ without_lf (d ∷ cs)
+-- whether some units are a whole line end: LF; CR; CR LF; any of these
+abbrev pub is_end : LineEnd → List ℕ → Bool
+is_end Lf (c ∷ []) = nat_eq c lf
+is_end Cr (c ∷ []) = nat_eq c cr
+is_end CrLf (c ∷ d ∷ []) = nat_eq c cr && nat_eq d lf
+is_end AnyEnd (c ∷ []) = nat_eq c lf || nat_eq c cr
+is_end AnyEnd (c ∷ d ∷ []) = nat_eq c cr && nat_eq d lf
+is_end end cs = false
 
--- a line without the LF that it ends with
-abbrev pub chopped : LineValue → LineValue
-chopped (Bytes line) = Bytes (without_lf line)
-chopped (Text line) = Text (without_lf line)
+-- a list without the longest line end that it ends with; one that ends with none is as it was
+abbrev pub without_end : LineEnd → List ℕ → List ℕ
+without_end end [] = []
+without_end end (c ∷ cs) = if is_end end (c ∷ cs) then [] else c ∷ without_end end cs
 
--- a line that has nothing is the end of the file
+-- a line without the end that it ends with
+abbrev pub chopped : LineEnd → LineValue → LineValue
+chopped end (Bytes line) = Bytes (without_end end line)
+chopped end (Text line) = Text (without_end end line)
+
+-- whether the last of a list is this one
+abbrev pub ends_in : ℕ → List ℕ → Bool
+ends_in end [] = false
+ends_in end (c ∷ []) = nat_eq c end
+ends_in end (c ∷ d ∷ cs) = ends_in end (d ∷ cs)
+
+-- a list without its last where that is this one
+abbrev pub without_last : ℕ → List ℕ → List ℕ
+without_last end [] = []
+without_last end (c ∷ []) = if nat_eq c end then [] else c ∷ []
+without_last end (c ∷ d ∷ cs) = c ∷ without_last end (d ∷ cs)
+
+-- a line that has nothing is the end of the file; another is given without its one LF, whatever the source's lines end with
 abbrev pub unless_empty : List ℕ → LineValue → Result (Option LineValue) IoFault
 unless_empty [] line = Err fault.EndOfFile
-unless_empty (c ∷ cs) line = Ok (Some (chopped line))
+unless_empty (c ∷ cs) line = Ok (Some (chopped Lf line))
 
 -- what is made of the answer of a `readline`
 abbrev pub line_of_file : Result (Option LineValue) IoFault → Result (Option LineValue) IoFault

@@ -1,7 +1,10 @@
-ghost use Rattle.std.specs.Prelude.{◌≡◌, ◌≢◌, ◌<◌, true, false, [], chars, string_bytes, string_len};
-ghost use Rattle.py_line_source.specs.Lines.{units_of, without_lf, chopped};
+ghost use Rattle.std.specs.Prelude.{◌≡◌, ◌≢◌, true, false, []};
+ghost use Rattle.py_plain.specs.NewlineRule.{line_end};
+ghost use Rattle.py_line_source.specs.Lines.{units_of, chopped};
 
+use crate::chopping::{chop_bytes, chop_text};
 use py_flat::{Chars, Data};
+use py_plain::Newlines;
 
 /// A line, of bytes or of text.
 #[derive(Debug, Drop, PartialEq, Eq)]
@@ -10,40 +13,6 @@ pub enum LineValue {
     Bytes(Data),
     /// A line of a text.
     Text(Chars),
-}
-
-/// Bytes without the LF that they end with, where they do.
-fn chop_bytes(bytes: Data) -> Data
-    ensures { result ≡ without_lf bytes }
-{
-    let mut bytes = bytes.into_vec();
-    match bytes.pop() {
-        Some(last) if last != b'\n' => bytes.push(last).unwrap(), // into the room that it had
-        _ => {}
-    }
-    Data::from_vec(bytes)
-}
-
-/// Takes the LF off a text that ends with one, which isn't empty.
-fn pop_lf(text: &mut String)
-    requires { 0 < string_len text.old }
-    ensures { chars (string_bytes text.new) ≡ without_lf (chars (string_bytes text.old)) }
-{
-    let last = text.pop().unwrap();
-    if last != '\n' {
-        text.push(last).unwrap(); // into the room that it had
-    }
-}
-
-/// A text without the LF that it ends with, where it does.
-fn chop_text(text: Chars) -> Chars
-    ensures { result ≡ without_lf text }
-{
-    let mut text = text.into_string();
-    if !text.is_empty() {
-        pop_lf(&mut text);
-    }
-    Chars::from_string(text)
 }
 
 impl LineValue {
@@ -58,13 +27,14 @@ impl LineValue {
         }
     }
 
-    /// The line without its one LF at the end, where it has one. It takes no memory.
-    pub fn without_lf(self) -> Self
-        ensures { result ≡ chopped self }
+    /// The line without the line end that it ends with by a rule, where it ends with one: LF, of the universal rule too; CR; CR LF; or, by
+    /// the rule of the empty text, CR LF, CR or LF, the longest of them. It takes no memory.
+    pub fn without_end(self, rule: Newlines) -> Self
+        ensures { result ≡ chopped (line_end rule) self }
     {
         match self {
-            LineValue::Bytes(bytes) => LineValue::Bytes(chop_bytes(bytes)),
-            LineValue::Text(text) => LineValue::Text(chop_text(text)),
+            LineValue::Bytes(bytes) => LineValue::Bytes(chop_bytes(bytes, rule)),
+            LineValue::Text(text) => LineValue::Text(chop_text(text, rule)),
         }
     }
 }

@@ -2,10 +2,11 @@ ghost use Rattle.py_line_source.specs.Lines.{ReadsLine};
 
 use crate::{LineSource, LineValue};
 use py_flat::IoFault;
+use py_plain::Newlines;
 use std::alloc::Global;
 
 /// Reads a line by one `readline` of a source, at most `limit` bytes or characters of it, and answers it without its one LF at the
-/// end, as the lines of a file are given to a program.
+/// end, whatever its lines end with, as the lines of a file are given to a program.
 ///
 /// `EndOfFile` where that line is empty: where nothing is left, or the limit is 0. Every other refusal, and `None` where the raw would
 /// have blocked, is that of the `readline`, and what stands then it says.
@@ -21,7 +22,7 @@ pub fn file_readline<S: LineSource>(
             if line.is_empty() {
                 return Err(IoFault::EndOfFile);
             }
-            Ok(Some(line.without_lf()))
+            Ok(Some(line.without_end(Newlines::Lf)))
         }
         Ok(None) => Ok(None),
         Err(fault) => Err(fault),
