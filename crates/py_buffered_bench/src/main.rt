@@ -5,6 +5,7 @@
 #![tactic(auto)]
 
 mod reading;
+mod seeking;
 mod task;
 mod writing;
 
@@ -16,6 +17,7 @@ use py_std::StdStream;
 use reading::{
     Reading, read_lent, read_lent_by_std, read_lines_by_std, read_small, read_small_by_std,
 };
+use seeking::{seek_small, seek_small_by_std};
 use std::io;
 use task::Task;
 use writing::{write_short, write_short_by_std};
@@ -34,6 +36,8 @@ fn read_file(rt: &HostRuntime, reading: Reading, path: &str) -> Option<Counts> {
         Reading::LinesByStd => read_lines_by_std(rt.alloc(), &mut StdStream::new(reader)).ok(),
         Reading::Lent => read_lent(&mut reader).ok(),
         Reading::LentByStd => read_lent_by_std(&mut StdStream::new(reader)).ok(),
+        Reading::Seeks => seek_small(&mut reader).ok(),
+        Reading::SeeksByStd => seek_small_by_std(&mut StdStream::new(reader)).ok(),
         Reading::Asked(asked) => asked.run(rt.alloc(), &mut reader).ok(),
     }
 }
@@ -60,7 +64,7 @@ fn once(rt: &HostRuntime, task: Task, path: &str) -> Option<Counts> {
 fn main(rt: HostRuntime) -> io::Result<()> {
     let Some(asked) = FileTask::from_command_line(&rt, Task::from_word)? else {
         return rt.println(
-            "usage: py_buffered_bench lines|pieces|whole|small|small-by-std|lines-by-std|lent|lent-by-std|writes|writes-by-std <path> <rounds>",
+            "usage: py_buffered_bench lines|pieces|whole|small|small-by-std|lines-by-std|lent|lent-by-std|seeks|seeks-by-std|writes|writes-by-std <path> <rounds>",
         );
     };
     let (counts, best) = best_of(

@@ -27,6 +27,10 @@ pub(crate) enum Reading {
     Lent,
     /// By std's `fill_buf` and `consume`.
     LentByStd,
+    /// Some bytes behind each of many seeks.
+    Seeks,
+    /// The same by std's `seek` and `read`.
+    SeeksByStd,
 }
 
 /// What is asked for at once.
