@@ -20,6 +20,7 @@ fn main(rt: HostRuntime) -> Result<()> {
     let alloc = rt.alloc();
     print(&rt, tables::copied(alloc))?;
     print(&rt, tables::moved(alloc))?;
+    print(&rt, tables::over_waits(alloc))?;
     print(&rt, waits::read_over_waits(alloc))?;
     print(&rt, waits::written_over_waits(alloc))?;
     print(&rt, places::replaced(alloc))?;
@@ -28,6 +29,9 @@ fn main(rt: HostRuntime) -> Result<()> {
     print(&rt, coded::numbers(alloc))?;
     print(&rt, coded::decoded(alloc))?;
     print(&rt, lines::dropped(alloc))?;
+    print(&rt, lines::of_random(alloc))?;
+    print(&rt, lines::of_text(alloc))?;
     print(&rt, lines::kept(alloc))?;
+    print(&rt, lines::lent(alloc))?;
     print(&rt, formatting::formatted(alloc))
 }

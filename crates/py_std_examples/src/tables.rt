@@ -1,7 +1,9 @@
 //! A table of comma separated values, read from a stream and written to another by the crate `csv`.
+use crate::waits::read_all;
 use anyhow::{Result, anyhow};
 use csv::{ByteRecord, Error, ReaderBuilder, WriterBuilder};
 use py_buffered::{BufferedReader, BufferedWriter};
+use py_memio::BytesIO;
 use py_raw::RawFlags;
 use py_raw_memory::{Cut, MemRaw};
 use py_std::StdStream;
@@ -88,6 +90,58 @@ pub(crate) fn moved(alloc: Global) -> Result<String> {
     let mut writer = table_writer(alloc)?;
     let count = io::copy(&mut reader, &mut writer);
     shown_copy(alloc, count)
+}
+
+/// A stream of the table, over a raw that would have blocked after each byte.
+fn waiting_reader(alloc: Global) -> Result<StdStream<BufferedReader<MemRaw>>> {
+    let flags = RawFlags::able(true, false, false); // it can be read
+    let mut plan = Vec::new(alloc);
+    for _ in TABLE {
+        plan.push(Cut::Take(1))?;
+        plan.push(Cut::Wait)?;
+    }
+    let raw = MemRaw::new(TABLE.to_vec(alloc)?, flags, plan, Vec::new(alloc));
+    Ok(StdStream::new(BufferedReader::new(alloc, raw, 8)?))
+}
+
+/// A table is read over waits: all of it first, and then its records.
+pub(crate) fn over_waits(alloc: Global) -> Result<String> {
+    let mut stream = waiting_reader(alloc)?;
+    let mut all = Vec::new(alloc);
+    let waits = read_all(&mut stream, &mut all);
+    let rows = records(alloc, StdStream::new(BytesIO::new(alloc, all)));
+    shown_records(alloc, waits, rows)
+}
+
+/// How many calls had to be made again, and whether the records are those of the table.
+fn shown_records(
+    alloc: Global,
+    waits: io::Result<u64>,
+    rows: Result<Vec<ByteRecord>, Error>,
+) -> Result<String> {
+    let waits = waits?;
+    let same = match rows {
+        Ok(rows) => are_records(&rows),
+        Err(_) => false,
+    };
+    Ok(format!(in alloc; "table over waits: {waits} calls more, its records: {same}")?)
+}
+
+/// Whether some records are those of the table.
+fn are_records(rows: &[ByteRecord]) -> bool {
+    match rows {
+        [names, ann, jo] => {
+            is_record(names, b"name", b"count")
+                && is_record(ann, b"ann", b"3")
+                && is_record(jo, b"smith, jo", b"12")
+        }
+        _ => false,
+    }
+}
+
+/// Whether a record has these two fields.
+fn is_record(row: &ByteRecord, name: &[u8], count: &[u8]) -> bool {
+    row.len() == 2 && row.get(0) == Some(name) && row.get(1) == Some(count)
 }
 
 /// How many bytes were copied.

@@ -9,7 +9,7 @@ use std::io;
 use std::io::{ErrorKind, Read, Write};
 
 /// Reads all that a reader has left, again after each wait; answers how many waits there were.
-fn read_all<R: Read>(reader: &mut R, all: &mut Vec<u8>) -> io::Result<u64> {
+pub(crate) fn read_all<R: Read>(reader: &mut R, all: &mut Vec<u8>) -> io::Result<u64> {
     for waits in 0..u64::MAX {
         match reader.read_to_end(all) {
             Err(error) if error.kind() == ErrorKind::WouldBlock => {} // what came stands in `all`

@@ -19,11 +19,17 @@ fn push_line<S: LineSource>(alloc: Global, source: &mut S, out: &mut String) -> 
     Ok(out.push_str(line.as_str())?)
 }
 
-/// Appends the two lines of a text: of an LF after a CR, and of nothing.
+/// Appends the lines of a text: of an LF after a CR, of a last line without an end, and of nothing.
 fn push_lines_of_text(alloc: Global, out: &mut String) -> Result<()> {
-    let mut text = text_of(alloc, b"ann\r\n", &[], STRICT)?;
-    push_line(alloc, &mut text, out)?; // "ann"
-    push_line(alloc, &mut text, out) // nothing is left
+    let mut text = text_of(alloc, b"ann\r\nc", &[], STRICT)?;
+    push_three(alloc, &mut text, out)
+}
+
+/// Appends three lines of a source that is lent: a `?` drops nothing of it.
+fn push_three<S: LineSource>(alloc: Global, source: &mut S, out: &mut String) -> Result<()> {
+    push_line(alloc, source, out)?; // "ann"
+    push_line(alloc, source, out)?; // "c": the last line may lack its end
+    push_line(alloc, source, out) // nothing is left
 }
 
 /// Appends the line of a stream of bytes.

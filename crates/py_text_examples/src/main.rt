@@ -34,6 +34,7 @@ fn main(rt: HostRuntime) -> Result<()> {
     print(&rt, line_ends::found(alloc))?;
     print(&rt, lines::of_both(alloc))?;
     print(&rt, writing::written(alloc))?;
+    print(&rt, writing::read_in_part(alloc))?;
     print(&rt, writing::by_lines(alloc))?;
     print(&rt, writers::to_a_string(alloc))?;
     print(&rt, writers::to_a_sink(alloc))?;

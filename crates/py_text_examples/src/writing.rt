@@ -1,5 +1,6 @@
 //! Texts that are written.
 use crate::making::STRICT;
+use crate::shown::characters;
 use anyhow::Result;
 use py_buffered::BufferedWriter;
 use py_flat::IoFault;
@@ -45,6 +46,42 @@ fn shown_bytes(
     bytes: &[u8],
 ) -> Result<String, AllocError> {
     format!(in alloc; "{word} {count} {bytes:?}")
+}
+
+/// A text that was read in part is written once it was read to its end.
+pub(crate) fn read_in_part(alloc: Global) -> Result<String> {
+    let buffer = BytesIO::new(alloc, b"one\ntwo\nthree".to_vec(alloc)?);
+    let mut text = TextIOWrapper::new(alloc, buffer, STRICT, TextSettings::default())?;
+    let written = lent_read_in_part(alloc, &mut text);
+    let bytes = bytes_of(alloc, &mut text)?;
+    shown_behind(
+        alloc,
+        written,
+        bytes.as_slice() == b"one\ntwo\nthreeX".as_slice(),
+    )
+}
+
+/// The calls of `read_in_part`, of a text that is lent.
+fn lent_read_in_part(
+    alloc: Global,
+    text: &mut TextIOWrapper<BytesIO>,
+) -> Result<(bool, usize), IoFault> {
+    let line = text.readline(alloc, None)?; // Some("one\n")
+    let is_refused = text.write(alloc, "X") == Err(IoFault::SeekFirst); // as it was
+    let rest = text.read(alloc, None)?; // Some("two\nthree"): its end
+    let count = text.write(alloc, "X")?; // 1, behind all that was read
+    let is_read = characters(&line) == "one\n" && characters(&rest) == "two\nthree";
+    Ok((is_refused && is_read, count))
+}
+
+/// Whether the first write was refused, how many characters the second took, and whether its bytes are behind the others.
+fn shown_behind(
+    alloc: Global,
+    written: Result<(bool, usize), IoFault>,
+    is_behind: bool,
+) -> Result<String> {
+    let (is_refused, count) = written?;
+    Ok(format!(in alloc; "read in part: {is_refused} {count} {is_behind}")?)
 }
 
 /// With line buffering a line is passed on at once; what a wait held up is passed on later.
