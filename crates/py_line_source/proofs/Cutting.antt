@@ -5,7 +5,8 @@ use Rattle.std.specs.declared.alloc.Global.{Global}
 use Rattle.std.proofs.lemmas.List.{append-nil}
 use Rattle.std.proofs.lemmas.Str.{IsUtf8-string_bytes, chars_from_encodes, encodes-append, encodes-chars}
 use Rattle.py_flat.specs.Lines.{Lf, Cr, CrLf, AnyEnd, lf, cr}
-use Rattle.py_line_source.specs.Lines.{ends_in, without_last, without_end}
+use Rattle.py_line_source.specs.Lines.{without_end}
+use Rattle.py_line_source.specs.Steps.{ends_in, without_last}
 
 onto : (test : Bool) (c : ℕ) (xs ys : List ℕ) → c ∷ (if test then xs else ys) ≡ (if test then c ∷ xs else c ∷ ys)
 onto true c xs ys = refl

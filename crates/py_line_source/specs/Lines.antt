@@ -39,18 +39,6 @@ abbrev pub chopped : LineEnd → LineValue → LineValue
 chopped end (Bytes line) = Bytes (without_end end line)
 chopped end (Text line) = Text (without_end end line)
 
--- whether the last of a list is this one
-abbrev pub ends_in : ℕ → List ℕ → Bool
-ends_in end [] = false
-ends_in end (c ∷ []) = nat_eq c end
-ends_in end (c ∷ d ∷ cs) = ends_in end (d ∷ cs)
-
--- a list without its last where that is this one
-abbrev pub without_last : ℕ → List ℕ → List ℕ
-without_last end [] = []
-without_last end (c ∷ []) = if nat_eq c end then [] else c ∷ []
-without_last end (c ∷ d ∷ cs) = c ∷ without_last end (d ∷ cs)
-
 -- a line that has nothing is the end of the file; another is given without its one LF, whatever the source's lines end with
 abbrev pub unless_empty : List ℕ → LineValue → Result (Option LineValue) IoFault
 unless_empty [] line = Err fault.EndOfFile

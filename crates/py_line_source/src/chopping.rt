@@ -1,7 +1,8 @@
 //! Lines without their ends, in the room that they had.
 ghost use Rattle.std.specs.Prelude.{◌≡◌, ◌+◌, ◌≤◌, length, chars, encode_utf8, string_bytes, string_len, string_capacity, vec_len, vec_capacity, if◌then◌else◌};
 ghost use Rattle.py_plain.specs.NewlineRule.{line_end};
-ghost use Rattle.py_line_source.specs.Lines.{ends_in, without_last, without_end};
+ghost use Rattle.py_line_source.specs.Lines.{without_end};
+ghost use Rattle.py_line_source.specs.Steps.{ends_in, without_last};
 
 use py_flat::{Chars, Data};
 use py_plain::Newlines;
