@@ -1,0 +1,7 @@
+//! Where a text stands, told by the bytes that are in hand.
+//!
+//! `told_among` walks the bytes from a place on and says where a text stands of which so many characters were given since; `restores`
+//! says whether a cookie that skips characters fits the bytes that lie at its start. Both take no memory.
+#![tactic(auto)]
+
+mod seen_item;
