@@ -1,1 +1,4 @@
 pub mod Seen
+pub mod Spots
+pub mod InHand
+pub mod ToldView

@@ -5,3 +5,7 @@
 #![tactic(auto)]
 
 mod seen_item;
+mod told;
+
+pub use py_plain_text::TextIOCookie;
+pub use told::{Told, told_among};

@@ -85,12 +85,7 @@ fn unit_of(encoding: Encoding, bytes: &[u8]) -> Unit
 }
 
 /// What comes first of some bytes, of which there is one, by a handler of texts that are read; `last` says that none come after them.
-pub(crate) fn first_seen(
-    encoding: Encoding,
-    handler: Handler,
-    bytes: &[u8],
-    last: bool,
-) -> SeenItem
+pub(crate) fn first_seen(encoding: Encoding, handler: Handler, bytes: &[u8], last: bool) -> SeenItem
     requires reads { reads_texts handler ≡ true }
     requires some { 0 < length bytes.now }
     ensures shown { (order : Order) (place : ℕ)

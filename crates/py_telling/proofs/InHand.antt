@@ -1,0 +1,162 @@
+-- The bytes in hand tell where a text stands, whatever comes behind them.
+use Rattle.std.proofs.Common.{◌≡◌, inl, inr, ℕ, ◌+◌, ◌-◌, ◌≤◌, Bool, true, false, if◌then◌else◌, List, [], ◌∷◌, ◌++◌, length as len, drop, None, refl, sym, ap, subst, ◌∙◌, arith, append-nil, append_assoc}
+use Rattle.std.proofs.lemmas.Bool.{cases_lt, true≢false}
+use Rattle.py_plain.specs.declared.encoding.Encoding.{Encoding}
+use Rattle.py_plain.specs.declared.handler.Handler.{Handler}
+use Rattle.py_plain.specs.declared.newlines.Newlines.{Newlines}
+use Rattle.py_plain.specs.Units.{Order, Unknown}
+use Rattle.py_plain.specs.Handlers.{Treatment, reads_texts}
+use Rattle.py_plain.specs.Items.{Item, Walk, Ending, characters_of}
+use Rattle.py_plain.specs.NewlineRule.{released, read_so_far, translated_to}
+use Rattle.py_plain.specs.Pieces.{walk_at, place_behind, unused, unless_refused}
+use Rattle.py_plain.proofs.Walks.{characters-append}
+use Rattle.py_plain.proofs.Looking.{reading}
+use Rattle.py_plain.proofs.Joining.{two}
+use Rattle.py_plain_text.specs.TextFile.{TextFile}
+use Rattle.py_plain_text.specs.Rest.{decoded}
+use Rattle.py_plain_text.specs.Telling.{end_of_item, told}
+use Rattle.py_plain_text.proofs.Translated.{none_read}
+use Rattle.py_plain_text.proofs.Inside.{treat_of, read_of, Walks, Begins, begins}
+use Rattle.py_telling.specs.Spots.{at_byte, spot_cookie, adds, lf_in, behind_lf, spot_behind, items_from}
+use Rattle.py_telling.specs.InHand.{surely_given, StandsBehind, LieIn}
+use Rattle.py_telling.proofs.Walking.{spot_step, spot_inside, spot_reached}
+use Rattle.py_telling.proofs.Counting.{none_held, holds_more, grows, so_far_within, so_far_long}
+use Rattle.py_telling.proofs.Boundaries.{held_of}
+use Rattle.py_telling.proofs.Telling.{told_at_spot}
+use Rattle.py_telling.proofs.Anywhere.{same_characters}
+
+-- Items of which more come.
+
+-- an LF is found among the first that have a character
+lf_front_in : (here : ℕ) (item : Item) (items behind : List Item) (cs : List ℕ) → (1 ≤ len (characters_of items) → behind_lf here (items ++ behind) ≡ behind_lf here items) → 1 ≤ len (cs ++ characters_of items) → lf_in here (end_of_item item) cs (behind_lf here (items ++ behind)) ≡ lf_in here (end_of_item item) cs (behind_lf here items)
+lf_front_in here item items behind [] same some = same some
+lf_front_in here item items behind (c ∷ cs) same some = refl
+
+lf_front : (here : ℕ) (items behind : List Item) → 1 ≤ len (characters_of items) → behind_lf here (items ++ behind) ≡ behind_lf here items
+lf_front here [] behind some = absurd (omega (arith, some))
+lf_front here (item ∷ items) behind some = lf_front_in here item items behind item.characters (lf_front here items behind) some
+
+empty : (cs : List ℕ) → len cs ≡ 0 → cs ≡ []
+empty [] none = refl
+empty (c ∷ cs) none = absurd (omega (arith, none))
+
+not_held : (held : Bool) → len (released held) ≡ 0 → held ≡ false
+not_held true none = absurd (omega (arith, none))
+not_held false none = refl
+
+-- what is surely given of some characters of a text
+abbrev so_far : TextFile → List ℕ → ℕ
+so_far file cs = len (read_so_far file.settings.newline false cs)
+
+-- where no more are surely given than were, none is left and no CR is held
+all_given : (file : TextFile) (before : List ℕ) (left : ℕ) → len (read_of file before) + left ≤ so_far file before → (left ≡ 0) × (held_of file before ≡ false)
+all_given file before left sure = (
+  omega (arith, sure, so_far_long file.settings.newline before),
+  not_held (held_of file before) (omega (arith, sure, so_far_long file.settings.newline before)),
+)
+
+reached_front : (file : TextFile) (place : ℕ) (before : List ℕ) (items behind : List Item) (held : Bool) → held_of file before ≡ held → len (read_of file before) ≤ so_far file (before ++ characters_of items) → (if held then behind_lf place (items ++ behind) else place) ≡ (if held then behind_lf place items else place)
+reached_front file place before items behind true is sure = elim (cases_lt 0 (len (characters_of items))) [
+  | inl some ↦ lf_front place items behind (omega (arith, some))
+  | inr none ↦ (
+      let nothing : characters_of items ≡ [] = empty (characters_of items) (omega (arith, none)) in
+      let same : before ++ characters_of items ≡ before = ap (λ (t : List ℕ). before ++ t) nothing ∙ append-nil before in
+      let unheld = (all_given file before 0 (omega (arith, sure, ap (so_far file) same))).1 in
+      absurd (true≢false (sym is ∙ unheld))
+      )
+]
+reached_front file place before items behind false is sure = refl
+
+-- the spot is found among the items in hand
+spot_front : (file : TextFile) → reads_texts file.settings.handler ≡ true → (ending : Ending) (place : ℕ) (before : List ℕ) (items behind : List Item) (left : ℕ) → Walks file place (items ++ behind) ending → len (read_of file before) + left ≤ so_far file (before ++ characters_of items) → spot_behind file.settings.newline left (held_of file before) place (items ++ behind) ≡ spot_behind file.settings.newline left (held_of file before) place items
+spot_front file reads ending place before [] behind left walks sure =
+    let given = all_given file before left (omega (arith, sure, ap (so_far file) (append-nil before))) in
+    spot_reached file.settings.newline left (held_of file before) place behind given.0
+    ∙ ap (λ (held : Bool). at_byte (if held then behind_lf place behind else place)) given.1
+spot_front file reads ending place before (item ∷ items) behind left walks sure =
+    let cs : List ℕ = item.characters in
+    let held : Bool = held_of file before in
+    let newline : Newlines = file.settings.newline in
+    let begin : Begins file place item (items ++ behind) ending = begins file reads place item (items ++ behind) ending walks in
+    let there : place + item.length ≡ item.start + item.length = omega (arith, begin.start) in
+    let walks_behind : Walks file (end_of_item item) (items ++ behind) ending = subst (λ (p : ℕ). Walks file p (items ++ behind) ending) there begin.behind in
+    elim (cases_lt 0 left) [
+      | inl some ↦ elim (cases_lt left (adds held cs)) [
+        | inl less ↦ spot_inside newline left held place item (items ++ behind) (omega (arith, some)) less ∙ sym (spot_inside newline left held place item items (omega (arith, some)) less)
+        | inr within ↦ (
+            let more : len (read_of file (before ++ cs)) + (left - adds held cs) ≤ so_far file ((before ++ cs) ++ characters_of items) =
+            omega (arith, sure, within, grows newline before cs begin.is.kind, ap (so_far file) (append_assoc before cs (characters_of items))) in
+            spot_step newline left held place item (items ++ behind) (omega (arith, some)) within
+            ∙ (ap (λ (h : Bool). spot_behind newline (left - adds held cs) h (end_of_item item) (items ++ behind)) (sym (holds_more newline before cs))
+            ∙ (spot_front file reads ending (end_of_item item) (before ++ cs) items behind (left - adds held cs) walks_behind more
+            ∙ (ap (λ (h : Bool). spot_behind newline (left - adds held cs) h (end_of_item item) items) (holds_more newline before cs)
+            ∙ sym (spot_step newline left held place item items (omega (arith, some)) within))))
+            )
+      ]
+      | inr none ↦ spot_reached newline left held place (item ∷ (items ++ behind)) (omega (arith, none))
+          ∙ (ap at_byte (reached_front file place before (item ∷ items) behind held refl (omega (arith, sure)))
+          ∙ sym (spot_reached newline left held place (item ∷ items) (omega (arith, none))))
+    ]
+
+-- A text that the bytes in hand lie in.
+
+-- what is surely given is that of the items in hand
+sure_is : (encoding : Encoding) (handler : Handler) (newline : Newlines) (last : Bool) (place : ℕ) (bytes : List ℕ) → surely_given encoding handler newline last bytes ≡ translated_to last newline (characters_of (items_from encoding handler last place 0 bytes))
+sure_is encoding handler newline last place bytes = ap (translated_to last newline) (same_characters handler encoding last Unknown 0 (place + 0) bytes)
+
+-- the items of a text from its byte on
+items_are : (file : TextFile) (bytes more : List ℕ) → file.place.order ≡ Unknown → drop file.place.at file.bytes ≡ bytes ++ more → (decoded file).items ≡ (walk_at file.settings.encoding (treat_of file) true Unknown (file.place.at + 0) (bytes ++ more)).items
+items_are file bytes more unknown is =
+    let here : file.place.at ≡ file.place.at + 0 = omega arith in
+    ap (λ (o : Order). (walk_at file.settings.encoding (treat_of file) true o file.place.at (drop file.place.at file.bytes)).items) unknown
+    ∙ (ap (λ (bs : List ℕ). (walk_at file.settings.encoding (treat_of file) true Unknown file.place.at bs).items) is
+    ∙ ap (λ (p : ℕ). (walk_at file.settings.encoding (treat_of file) true Unknown p (bytes ++ more)).items) here)
+
+-- the items in hand come first
+record ComesBehind (file : TextFile) (last : Bool) (bytes : List ℕ) : Type 0 where
+  behind : List Item
+  are : (decoded file).items ≡ items_from file.settings.encoding file.settings.handler last file.place.at 0 bytes ++ behind
+
+comes_behind : (file : TextFile) → reads_texts file.settings.handler ≡ true → file.place.order ≡ Unknown → (bytes more : List ℕ) → drop file.place.at file.bytes ≡ bytes ++ more → ComesBehind file false bytes
+comes_behind file reads unknown bytes more is =
+    let enc : Encoding = file.settings.encoding in
+    let treat : Treatment = treat_of file in
+    let place : ℕ = file.place.at + 0 in
+    let first : Walk = walk_at enc treat false Unknown place bytes in
+    record {
+      behind = (unless_refused first.order first.ending (walk_at enc treat true first.order (place_behind place bytes first.ending) (unused place bytes first.ending ++ more))).items;
+      are = items_are file bytes more unknown is ∙ sym (ap (λ (w : Walk). w.items) (two enc treat (reading file.settings.handler enc reads) true Unknown place bytes more));
+    }
+
+told_by : (file : TextFile) → reads_texts file.settings.handler ≡ true → file.place.order ≡ Unknown → file.place.front ≡ None → (last : Bool) (bytes more : List ℕ) → drop file.place.at file.bytes ≡ bytes ++ more → (last ≡ true → more ≡ []) → file.place.taken ≤ len (surely_given file.settings.encoding file.settings.handler file.settings.newline last bytes) → told file ≡ spot_cookie (spot_behind file.settings.newline file.place.taken false file.place.at (items_from file.settings.encoding file.settings.handler last file.place.at 0 bytes))
+told_by file reads unknown front true bytes more is ended sure =
+    let whole : (decoded file).items ≡ items_from file.settings.encoding file.settings.handler true file.place.at 0 bytes =
+    items_are file bytes more unknown is
+    ∙ ap (λ (bs : List ℕ). (walk_at file.settings.encoding (treat_of file) true Unknown (file.place.at + 0) bs).items) (ap (λ (t : List ℕ). bytes ++ t) (ended refl) ∙ append-nil bytes) in
+    let within : file.place.taken ≤ len (read_of file (characters_of (decoded file).items)) =
+    subst (λ (items : List Item). file.place.taken ≤ len (read_of file (characters_of items))) (sym whole) (subst (λ (t : List ℕ). file.place.taken ≤ len t) (sure_is file.settings.encoding file.settings.handler file.settings.newline true file.place.at bytes) sure) in
+    told_at_spot file reads unknown front within
+    ∙ ap (λ (items : List Item). spot_cookie (spot_behind file.settings.newline file.place.taken false file.place.at items)) whole
+told_by file reads unknown front false bytes more is ended sure =
+    let newline : Newlines = file.settings.newline in
+    let hand : List Item = items_from file.settings.encoding file.settings.handler false file.place.at 0 bytes in
+    let parts : ComesBehind file false bytes = comes_behind file reads unknown bytes more is in
+    let so_far_sure : file.place.taken ≤ so_far file (characters_of hand) =
+    omega (arith, sure, ap len (sure_is file.settings.encoding file.settings.handler newline false file.place.at bytes), ap len (append-nil (read_so_far newline false (characters_of hand)))) in
+    let all : characters_of (decoded file).items ≡ characters_of hand ++ characters_of parts.behind = ap characters_of parts.are ∙ characters-append hand parts.behind in
+    let within : file.place.taken ≤ len (read_of file (characters_of (decoded file).items)) =
+    omega (arith, so_far_sure, so_far_within newline (characters_of hand) (characters_of parts.behind), ap (λ (t : List ℕ). len (read_of file t)) all) in
+    let found = spot_front file reads (decoded file).ending file.place.at [] hand parts.behind file.place.taken (record { items_are = parts.are; ending_is = refl }) (omega (arith, so_far_sure, ap len (none_read newline))) in
+    told_at_spot file reads unknown front within
+    ∙ (ap (λ (items : List Item). spot_cookie (spot_behind newline file.place.taken false file.place.at items)) parts.are
+    ∙ (ap (λ (held : Bool). spot_cookie (spot_behind newline file.place.taken held file.place.at (hand ++ parts.behind))) (sym (none_held newline))
+    ∙ (ap spot_cookie found
+    ∙ ap (λ (held : Bool). spot_cookie (spot_behind newline file.place.taken held file.place.at hand)) (none_held newline))))
+
+-- the spot that is found among the bytes in hand is what the text tells
+pub told_in_hand : (encoding : Encoding) (handler : Handler) (newline : Newlines) (last : Bool) (bytes : List ℕ) (place given : ℕ) → reads_texts handler ≡ true → given ≤ len (surely_given encoding handler newline last bytes) → (file : TextFile) → StandsBehind encoding handler newline place given file → LieIn last place bytes file → spot_cookie (spot_behind newline given false place (items_from encoding handler last place 0 bytes)) ≡ told file
+told_in_hand encoding handler newline last bytes place given reads sure file stands lies =
+    let reads_it : reads_texts file.settings.handler ≡ true = ap reads_texts stands.handler_is ∙ reads in
+    let sure_it : file.place.taken ≤ len (surely_given file.settings.encoding file.settings.handler file.settings.newline last bytes) = rw (stands.encoding_is, stands.handler_is, stands.newline_is, stands.taken) sure in
+    let same : spot_behind file.settings.newline file.place.taken false file.place.at (items_from file.settings.encoding file.settings.handler last file.place.at 0 bytes) ≡ spot_behind newline given false place (items_from encoding handler last place 0 bytes) = rw (stands.encoding_is, stands.handler_is, stands.newline_is, stands.taken, stands.at) refl in
+    sym (told_by file reads_it stands.order stands.front last bytes lies.more (ap (λ (p : ℕ). drop p file.bytes) stands.at ∙ lies.bytes_are) lies.last_are sure_it ∙ ap spot_cookie same)
