@@ -194,12 +194,15 @@ pub item_signs : (handler : Handler) (encoding : Encoding) → reads_texts handl
 item_signs handler encoding reads order place rest characters used more is = unit_signs handler encoding reads place rest characters used (first_unit encoding order (nat_eq place 0) rest) more is
 
 -- in UTF-8 the first of them have a byte each
+pub ascii_encoded : (count : ℕ) (cs : List ℕ) → AreAscii cs → len (encode_utf8_all (take count cs)) ≡ len (take count cs)
+ascii_encoded zero cs ascii = refl
+ascii_encoded (suc count) [] ascii = refl
+ascii_encoded (suc count) (c ∷ cs) ascii =
+    let one : len (encode_utf8 c) ≡ 1 = ap len (encode_ascii c ascii.0) in
+    length-append (encode_utf8 c) (encode_utf8_all (take count cs)) ∙ omega (arith, one, ascii_encoded count cs ascii.1)
+
 pub signs_encoded : (count : ℕ) (cs : List ℕ) → Signs cs → len (encode_utf8_all (take count cs)) ≡ len (take count cs)
-signs_encoded zero cs signs = refl
-signs_encoded (suc count) [] signs = refl
-signs_encoded (suc count) (c ∷ cs) signs =
-    let one : len (encode_utf8 c) ≡ 1 = ap len (encode_ascii c signs.1) in
-    length-append (encode_utf8 c) (encode_utf8_all (take count cs)) ∙ omega (arith, one, signs_encoded count cs signs.2)
+signs_encoded count cs signs = ascii_encoded count cs (all_ascii cs signs)
 
 -- Units.
 

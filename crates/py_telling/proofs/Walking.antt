@@ -19,13 +19,13 @@ use Rattle.py_telling.specs.Spots.{Spot, at_byte, is_universal, holds, adds, lf_
 
 -- The items from one of the bytes on.
 
-step_by : (encoding : Encoding) (treat : Treatment) (last : Bool) (place : ℕ) (bytes cs : List ℕ) (used : ℕ) → 0 < len bytes → 1 ≤ used → first_item encoding treat last Unknown place bytes ≡ Given cs used → walk_at encoding treat last Unknown place bytes ≡ onto_walk Unknown place (Given cs used) (walk_at encoding treat last Unknown (place + used) (drop used bytes))
-step_by encoding treat last place [] cs used inside some is = absurd (omega (arith, inside))
-step_by encoding treat last place (byte ∷ rest) cs zero inside some is = absurd (omega (arith, some))
-step_by encoding treat last place (byte ∷ rest) cs (suc used) inside some is =
+pub step_by : (encoding : Encoding) (treat : Treatment) (last : Bool) (order : Order) (place : ℕ) (bytes cs : List ℕ) (used : ℕ) → 0 < len bytes → 1 ≤ used → first_item encoding treat last order place bytes ≡ Given cs used → walk_at encoding treat last order place bytes ≡ onto_walk order place (Given cs used) (walk_at encoding treat last order (place + used) (drop used bytes))
+step_by encoding treat last order place [] cs used inside some is = absurd (omega (arith, inside))
+step_by encoding treat last order place (byte ∷ rest) cs zero inside some is = absurd (omega (arith, some))
+step_by encoding treat last order place (byte ∷ rest) cs (suc used) inside some is =
     let one : suc used - 1 ≡ used = omega arith in
-    walk-given encoding treat last Unknown place byte rest cs (suc used) some is
-    ∙ ap (λ (k : ℕ). onto_walk Unknown place (Given cs (suc used)) (walk_at encoding treat last Unknown (place + suc used) (drop k rest))) one
+    walk-given encoding treat last order place byte rest cs (suc used) some is
+    ∙ ap (λ (k : ℕ). onto_walk order place (Given cs (suc used)) (walk_at encoding treat last order (place + suc used) (drop k rest))) one
 
 -- an item that is read at a place
 abbrev item_at : ℕ → List ℕ → ℕ → Item
@@ -36,7 +36,7 @@ items_step encoding handler last place at bytes cs used inside some is =
     let treat : Treatment = treatment handler encoding in
     let far : place + at + used ≡ place + (at + used) = omega arith in
     let behind : drop used (drop at bytes) ≡ drop (at + used) bytes = drop-drop used at bytes ∙ ap (λ (k : ℕ). drop k bytes) (omega arith) in
-    ap (λ (w : Walk). w.items) (step_by encoding treat last (place + at) (drop at bytes) cs used (omega (arith, inside, length-drop at bytes)) some is)
+    ap (λ (w : Walk). w.items) (step_by encoding treat last Unknown (place + at) (drop at bytes) cs used (omega (arith, inside, length-drop at bytes)) some is)
     ∙ (ap (λ (p : ℕ). item_at (place + at) cs used ∷ (walk_at encoding treat last Unknown p (drop used (drop at bytes))).items) far
     ∙ ap (λ (bs : List ℕ). item_at (place + at) cs used ∷ (walk_at encoding treat last Unknown (place + (at + used)) bs).items) behind)
 
@@ -48,7 +48,7 @@ pub items_past : (encoding : Encoding) (handler : Handler) (last : Bool) (place 
 items_past encoding handler last place at bytes past = none_behind encoding (treatment handler encoding) last (place + at) (drop at bytes) (omega (arith, past, length-drop at bytes))
 
 -- what ends a walk
-abbrev IsNoItem : FirstItem → Type 0
+abbrev pub IsNoItem : FirstItem → Type 0
 IsNoItem (Given characters used) = ⊥
 IsNoItem first = Unit {0}
 
@@ -57,24 +57,24 @@ no_item order place (Given characters used) walk none = absurd none
 no_item order place (RefusedRange size) walk none = refl
 no_item order place Unfinished walk none = refl
 
-ended_by : (encoding : Encoding) (treat : Treatment) (last : Bool) (place : ℕ) (bytes : List ℕ) → IsNoItem (first_item encoding treat last Unknown place bytes) → (walk_at encoding treat last Unknown place bytes).items ≡ []
-ended_by encoding treat last place [] none = refl
-ended_by encoding treat last place (byte ∷ rest) none = no_item Unknown place (first_item encoding treat last Unknown place (byte ∷ rest)) _ none
+pub ended_by : (encoding : Encoding) (treat : Treatment) (last : Bool) (order : Order) (place : ℕ) (bytes : List ℕ) → IsNoItem (first_item encoding treat last order place bytes) → (walk_at encoding treat last order place bytes).items ≡ []
+ended_by encoding treat last order place [] none = refl
+ended_by encoding treat last order place (byte ∷ rest) none = no_item order place (first_item encoding treat last order place (byte ∷ rest)) _ none
 
 -- What is seen.
 
-seen_character : (first : FirstItem) (c used : ℕ) → Shows first (seen.Character c used) → first ≡ Given (c ∷ []) used
+pub seen_character : (first : FirstItem) (c used : ℕ) → Shows first (seen.Character c used) → first ≡ Given (c ∷ []) used
 seen_character (Given characters size) c used shows = rw (shows.0, shows.1) refl
 seen_character (RefusedRange size) c used shows = absurd shows
 seen_character Unfinished c used shows = absurd shows
 
 -- characters that stand for a range
-record Stands (first : FirstItem) (count used : ℕ) : Type 0 where
-  characters : List ℕ
-  is : first ≡ Given characters used
-  stand : StandFor count characters
+pub record Stands (first : FirstItem) (count used : ℕ) : Type 0 where
+  pub characters : List ℕ
+  pub is : first ≡ Given characters used
+  pub stand : StandFor count characters
 
-seen_replaced : (first : FirstItem) (count used : ℕ) → Shows first (seen.Replaced count used) → Stands first count used
+pub seen_replaced : (first : FirstItem) (count used : ℕ) → Shows first (seen.Replaced count used) → Stands first count used
 seen_replaced (Given characters size) count used shows = record { characters = characters; is = ap (Given characters) shows.1; stand = shows.0 }
 seen_replaced (RefusedRange size) count used shows = absurd shows
 seen_replaced Unfinished count used shows = absurd shows
@@ -94,7 +94,7 @@ abbrev pub first_from : Encoding → Handler → Bool → (place at : ℕ) → L
 first_from encoding handler last place at bytes = first_item encoding (treatment handler encoding) last Unknown (place + at) (drop at bytes)
 
 pub items_ended : (encoding : Encoding) (handler : Handler) (last : Bool) (place at : ℕ) (bytes : List ℕ) → IsNoItem (first_from encoding handler last place at bytes) → items_from encoding handler last place at bytes ≡ []
-items_ended encoding handler last place at bytes none = ended_by encoding (treatment handler encoding) last (place + at) (drop at bytes) none
+items_ended encoding handler last place at bytes none = ended_by encoding (treatment handler encoding) last Unknown (place + at) (drop at bytes) none
 
 nothing : (cs : List ℕ) → len cs ≡ 0 → cs ≡ []
 nothing [] none = refl

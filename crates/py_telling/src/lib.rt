@@ -4,8 +4,10 @@
 //! says whether a cookie that skips characters fits the bytes that lie at its start. Both take no memory.
 #![tactic(auto)]
 
+mod restoring;
 mod seen_item;
 mod told;
 
 pub use py_plain_text::TextIOCookie;
+pub use restoring::restores;
 pub use told::{Told, told_among};

@@ -1,0 +1,135 @@
+-- The bytes that a cookie feeds, where they are one item.
+use Rattle.std.proofs.Common.{◌≡◌, inl, inr, ℕ, zero, suc, ◌+◌, ◌<◌, ◌≤◌, Bool, true, false, ◌&&◌, nat_eq, nat_lt, nat_abs, List, [], ◌∷◌, length as len, drop, take, Option, Some, None, encode_utf8_all, refl, sym, ap, ◌∙◌, arith}
+use Rattle.std.proofs.lemmas.Bool.{and_parts, cases_lt, eqb-true, eq-eqb, le-ltb, cond-true, cond-false}
+use Rattle.std.proofs.lemmas.Bool.Decides.{nat_tests}
+use Rattle.std.proofs.lemmas.List.{length-drop, length-take-le}
+use Rattle.py_plain.specs.declared.encoding.Encoding.{Encoding}
+use Rattle.py_plain.specs.declared.handler.Handler.{Handler}
+use Rattle.py_plain.specs.Units.{Order}
+use Rattle.py_plain.specs.Handlers.{Treatment, treatment}
+use Rattle.py_plain.specs.Items.{Item, Ending, AtEnd, AtRange, AtCut, Walk, ends, Given, first_item, onto_walk, walk_from}
+use Rattle.py_plain.specs.Pieces.{walk_at}
+use Rattle.py_plain_text.specs.TextFile.{TextFile}
+use Rattle.py_plain_text.specs.Cookie.{Cookie, order_of}
+use Rattle.py_plain_text.specs.Landing.{start_of, fed_by, skipped_by, only_item, fed_bytes, skips_within, is_restorable}
+use Rattle.py_telling.specs.declared.seen_item.SeenItem.TheVariants as seen
+use Rattle.py_telling.specs.Seen.{StandFor, Shows}
+use Rattle.py_telling.specs.Restoring.{feeds, skips_fewer, IsCount, FeedsOf}
+use Rattle.py_telling.proofs.Ranges.{ascii_encoded}
+use Rattle.py_telling.proofs.Walking.{step_by, IsNoItem, ended_by, seen_character, seen_replaced}
+
+-- One item.
+
+none_left : (encoding : Encoding) (treat : Treatment) (last : Bool) (order : Order) (place : ℕ) (bytes : List ℕ) → len bytes ≡ 0 → walk_at encoding treat last order place bytes ≡ ends order AtEnd
+none_left encoding treat last order place [] none = refl
+none_left encoding treat last order place (byte ∷ rest) none = absurd (omega (arith, none))
+
+-- the one item that some bytes are
+abbrev one_in : Encoding → Handler → Bool → Order → ℕ → List ℕ → Option (List ℕ)
+one_in encoding handler last order place bytes =
+    let walk = walk_at encoding (treatment handler encoding) last order place bytes in
+    only_item (len bytes) walk.items walk.ending
+
+whole_one : (encoding : Encoding) (handler : Handler) (last : Bool) (order : Order) (place : ℕ) (bytes cs : List ℕ) (used : ℕ) → 1 ≤ used → used ≡ len bytes → first_item encoding (treatment handler encoding) last order place bytes ≡ Given cs used → one_in encoding handler last order place bytes ≡ Some cs
+whole_one encoding handler last order place bytes cs used some whole is =
+    let treat : Treatment = treatment handler encoding in
+    ap (λ (w : Walk). only_item (len bytes) w.items w.ending)
+    (step_by encoding treat last order place bytes cs used (omega (arith, some, whole)) some is
+    ∙ ap (onto_walk order place (Given cs used)) (none_left encoding treat last order (place + used) (drop used bytes) (omega (arith, whole, length-drop used bytes))))
+    ∙ cond-true (nat_eq used (len bytes)) (Some cs) None (eq-eqb used (len bytes) whole)
+
+other_only : (size : ℕ) (item : Item) (items : List Item) (ending : Ending) → nat_eq item.length size ≡ false → only_item size (item ∷ items) ending ≡ None
+other_only size item [] AtEnd isnt = cond-false (nat_eq item.length size) (Some item.characters) None isnt
+other_only size item [] (AtRange start end) isnt = refl
+other_only size item [] (AtCut start) isnt = refl
+other_only size item (next ∷ items) ending isnt = refl
+
+part_one : (encoding : Encoding) (handler : Handler) (last : Bool) (order : Order) (place : ℕ) (bytes cs : List ℕ) (used : ℕ) → 0 < len bytes → 1 ≤ used → (used ≡ len bytes → ⊥) → first_item encoding (treatment handler encoding) last order place bytes ≡ Given cs used → one_in encoding handler last order place bytes ≡ None
+part_one encoding handler last order place bytes cs used inside some part is =
+    let treat : Treatment = treatment handler encoding in
+    let isnt : nat_eq used (len bytes) ≡ false = grind (arith, nat_tests) in
+    let behind : Walk = walk_at encoding treat last order (place + used) (drop used bytes) in
+    ap (λ (w : Walk). only_item (len bytes) w.items w.ending) (step_by encoding treat last order place bytes cs used inside some is)
+    ∙ other_only (len bytes) (record { start = place; length = used; order = order; characters = cs }) behind.items behind.ending isnt
+
+no_only : (size : ℕ) (ending : Ending) → only_item size [] ending ≡ None
+no_only size ending = refl
+
+-- How many characters it has.
+
+first_skipped : (c skipped : ℕ) → skipped < 1 → len (encode_utf8_all (take skipped (c ∷ []))) ≡ skipped
+first_skipped c zero less = refl
+first_skipped c (suc skipped) less = absurd (omega (arith, less))
+
+stand_skipped : (count skipped : ℕ) (cs : List ℕ) → StandFor count cs → skipped < count → len (encode_utf8_all (take skipped cs)) ≡ skipped
+stand_skipped count zero cs stand less = refl
+stand_skipped count (suc skipped) cs stand less =
+    ascii_encoded (suc skipped) cs (stand.ascii (omega (arith, less))) ∙ length-take-le (suc skipped) cs (omega (arith, less, stand.long))
+
+abbrev Counted : ℕ → Encoding → Handler → Bool → Order → ℕ → List ℕ → Type 0
+Counted count encoding handler last order place bytes = IsCount count (one_in encoding handler last order place bytes)
+
+pub count_character : (encoding : Encoding) (handler : Handler) (last : Bool) (order : Order) (place : ℕ) (bytes : List ℕ) (c used : ℕ) → 1 ≤ used → used ≡ len bytes → Shows (first_item encoding (treatment handler encoding) last order place bytes) (seen.Character c used) → Counted 1 encoding handler last order place bytes
+count_character encoding handler last order place bytes c used some whole shows =
+    rw (whole_one encoding handler last order place bytes (c ∷ []) used some whole (seen_character (first_item encoding (treatment handler encoding) last order place bytes) c used shows))
+    (refl, first_skipped c)
+
+pub count_replaced : (encoding : Encoding) (handler : Handler) (last : Bool) (order : Order) (place : ℕ) (bytes : List ℕ) (count used : ℕ) → 1 ≤ used → used ≡ len bytes → Shows (first_item encoding (treatment handler encoding) last order place bytes) (seen.Replaced count used) → Counted count encoding handler last order place bytes
+count_replaced encoding handler last order place bytes count used some whole shows =
+    let stands = seen_replaced (first_item encoding (treatment handler encoding) last order place bytes) count used shows in
+    rw (whole_one encoding handler last order place bytes stands.characters used some whole stands.is)
+    (stands.stand.long, λ skipped less. stand_skipped count skipped stands.characters stands.stand less)
+
+pub count_part : (encoding : Encoding) (handler : Handler) (last : Bool) (order : Order) (place : ℕ) (bytes : List ℕ) (c used : ℕ) → 0 < len bytes → 1 ≤ used → (used ≡ len bytes → ⊥) → Shows (first_item encoding (treatment handler encoding) last order place bytes) (seen.Character c used) → Counted 0 encoding handler last order place bytes
+count_part encoding handler last order place bytes c used inside some part shows =
+    rw (part_one encoding handler last order place bytes (c ∷ []) used inside some part (seen_character (first_item encoding (treatment handler encoding) last order place bytes) c used shows)) refl
+
+pub count_part_replaced : (encoding : Encoding) (handler : Handler) (last : Bool) (order : Order) (place : ℕ) (bytes : List ℕ) (count used : ℕ) → 0 < len bytes → 1 ≤ used → (used ≡ len bytes → ⊥) → Shows (first_item encoding (treatment handler encoding) last order place bytes) (seen.Replaced count used) → Counted 0 encoding handler last order place bytes
+count_part_replaced encoding handler last order place bytes count used inside some part shows =
+    let stands = seen_replaced (first_item encoding (treatment handler encoding) last order place bytes) count used shows in
+    rw (part_one encoding handler last order place bytes stands.characters used inside some part stands.is) refl
+
+pub count_none : (encoding : Encoding) (handler : Handler) (last : Bool) (order : Order) (place : ℕ) (bytes : List ℕ) → IsNoItem (first_item encoding (treatment handler encoding) last order place bytes) → Counted 0 encoding handler last order place bytes
+count_none encoding handler last order place bytes none =
+    let walk : Walk = walk_at encoding (treatment handler encoding) last order place bytes in
+    let is : one_in encoding handler last order place bytes ≡ None = ap (λ (items : List Item). only_item (len bytes) items walk.ending) (ended_by encoding (treatment handler encoding) last order place bytes none) in
+    rw is refl
+
+-- The cookie.
+
+skips_is : (cookie : Cookie) (count : ℕ) (item : Option (List ℕ)) → IsCount count item → skips_within cookie item ≡ skips_fewer cookie count
+skips_is cookie count None none =
+    sym (ap (λ (b : Bool). b && nat_eq (skipped_by cookie) (nat_abs cookie.bytes_to_skip)) (le-ltb (skipped_by cookie) count (omega (arith, none))))
+skips_is cookie count (Some cs) is = elim (cases_lt (skipped_by cookie) count) [
+  | inl less ↦ ap (λ (n : ℕ). nat_lt (skipped_by cookie) n && nat_eq (len (encode_utf8_all (take (skipped_by cookie) cs))) (nat_abs cookie.bytes_to_skip)) is.0
+      ∙ ap (λ (n : ℕ). nat_lt (skipped_by cookie) count && nat_eq n (nat_abs cookie.bytes_to_skip)) (is.1 (skipped_by cookie) less)
+  | inr past ↦ ap (λ (b : Bool). b && nat_eq (len (encode_utf8_all (take (skipped_by cookie) cs))) (nat_abs cookie.bytes_to_skip)) (le-ltb (skipped_by cookie) (len cs) (omega (arith, past, is.0)))
+      ∙ sym (ap (λ (b : Bool). b && nat_eq (skipped_by cookie) (nat_abs cookie.bytes_to_skip)) (le-ltb (skipped_by cookie) count past))
+]
+
+-- whether the bytes that are fed are one item in which the cookie skips
+abbrev fits : Encoding → Handler → Cookie → List ℕ → Bool
+fits encoding handler cookie fed =
+    let walk = walk_from encoding (treatment handler encoding) cookie.need_eof (order_of cookie.dec_flags) (start_of cookie) 0 fed in
+    feeds cookie fed && skips_within cookie (only_item (fed_by cookie) walk.items walk.ending)
+
+restorable_is : (encoding : Encoding) (handler : Handler) (cookie : Cookie) (fed : List ℕ) (file : TextFile) → FeedsOf encoding handler cookie fed file → is_restorable file cookie ≡ (file.can.readable && fits encoding handler cookie fed)
+restorable_is encoding handler cookie fed file of =
+    ap (λ (e : Encoding). file.can.readable && fits e file.settings.handler cookie (fed_bytes file cookie)) of.encoding_is
+    ∙ (ap (λ (h : Handler). file.can.readable && fits encoding h cookie (fed_bytes file cookie)) of.handler_is
+    ∙ ap (λ (bs : List ℕ). file.can.readable && fits encoding handler cookie bs) (sym of.fed_are))
+
+pub restores_none : (encoding : Encoding) (handler : Handler) (cookie : Cookie) (fed : List ℕ) → feeds cookie fed ≡ false → (file : TextFile) → FeedsOf encoding handler cookie fed file → is_restorable file cookie ≡ (file.can.readable && false)
+restores_none encoding handler cookie fed none file of =
+    let walk : Walk = walk_from encoding (treatment handler encoding) cookie.need_eof (order_of cookie.dec_flags) (start_of cookie) 0 fed in
+    restorable_is encoding handler cookie fed file of
+    ∙ ap (λ (b : Bool). file.can.readable && (b && skips_within cookie (only_item (fed_by cookie) walk.items walk.ending))) none
+
+pub restores_some : (encoding : Encoding) (handler : Handler) (cookie : Cookie) (fed : List ℕ) (count : ℕ) → feeds cookie fed ≡ true → Counted count encoding handler cookie.need_eof (order_of cookie.dec_flags) (start_of cookie) fed → (file : TextFile) → FeedsOf encoding handler cookie fed file → is_restorable file cookie ≡ (file.can.readable && skips_fewer cookie count)
+restores_some encoding handler cookie fed count some is file of =
+    let walk : Walk = walk_from encoding (treatment handler encoding) cookie.need_eof (order_of cookie.dec_flags) (start_of cookie) 0 fed in
+    let size : len fed ≡ fed_by cookie = eqb-true (len fed) (fed_by cookie) (and_parts _ _ (and_parts _ _ some).1).1 in
+    restorable_is encoding handler cookie fed file of
+    ∙ (ap (λ (b : Bool). file.can.readable && (b && skips_within cookie (only_item (fed_by cookie) walk.items walk.ending))) some
+    ∙ (ap (λ (n : ℕ). file.can.readable && skips_within cookie (only_item n walk.items walk.ending)) (sym size)
+    ∙ ap (λ (b : Bool). file.can.readable && b) (skips_is cookie count (only_item (len fed) walk.items walk.ending) is)))
