@@ -1,20 +1,18 @@
 -- The bytes that a cookie feeds, where they are one item.
-use Rattle.std.proofs.Common.{◌≡◌, inl, inr, ℕ, zero, suc, ◌+◌, ◌<◌, ◌≤◌, Bool, true, false, ◌&&◌, nat_eq, nat_lt, nat_abs, List, [], ◌∷◌, length as len, drop, take, Option, Some, None, encode_utf8_all, refl, sym, ap, ◌∙◌, arith}
-use Rattle.std.proofs.lemmas.Bool.{and_parts, cases_lt, eqb-true, eq-eqb, le-ltb, cond-true, cond-false}
+use Rattle.std.proofs.Common.{◌≡◌, ℕ, zero, suc, ◌+◌, ◌<◌, ◌≤◌, Bool, false, nat_eq, List, [], ◌∷◌, length as len, drop, take, Option, Some, None, encode_utf8_all, refl, ap, ◌∙◌, arith}
+use Rattle.std.proofs.lemmas.Bool.{eq-eqb, cond-true, cond-false}
 use Rattle.std.proofs.lemmas.Bool.Decides.{nat_tests}
 use Rattle.std.proofs.lemmas.List.{length-drop, length-take-le}
 use Rattle.py_plain.specs.declared.encoding.Encoding.{Encoding}
 use Rattle.py_plain.specs.declared.handler.Handler.{Handler}
 use Rattle.py_plain.specs.Units.{Order}
 use Rattle.py_plain.specs.Handlers.{Treatment, treatment}
-use Rattle.py_plain.specs.Items.{Item, Ending, AtEnd, AtRange, AtCut, Walk, ends, Given, first_item, onto_walk, walk_from}
+use Rattle.py_plain.specs.Items.{Item, Ending, AtEnd, AtRange, AtCut, Walk, ends, Given, first_item, onto_walk}
 use Rattle.py_plain.specs.Pieces.{walk_at}
-use Rattle.py_plain_text.specs.TextFile.{TextFile}
-use Rattle.py_plain_text.specs.Cookie.{Cookie, order_of}
-use Rattle.py_plain_text.specs.Landing.{start_of, fed_by, skipped_by, only_item, fed_bytes, skips_within, is_restorable}
+use Rattle.py_plain_text.specs.Landing.{only_item}
 use Rattle.py_telling.specs.declared.seen_item.SeenItem.TheVariants as seen
 use Rattle.py_telling.specs.Seen.{StandFor, Shows}
-use Rattle.py_telling.specs.Restoring.{feeds, skips_fewer, IsCount, FeedsOf}
+use Rattle.py_telling.specs.Restoring.{IsCount}
 use Rattle.py_telling.proofs.Ranges.{ascii_encoded}
 use Rattle.py_telling.proofs.Walking.{step_by, IsNoItem, ended_by, seen_character, seen_replaced}
 
@@ -94,42 +92,3 @@ count_none encoding handler last order place bytes none =
     let walk : Walk = walk_at encoding (treatment handler encoding) last order place bytes in
     let is : one_in encoding handler last order place bytes ≡ None = ap (λ (items : List Item). only_item (len bytes) items walk.ending) (ended_by encoding (treatment handler encoding) last order place bytes none) in
     rw is refl
-
--- The cookie.
-
-skips_is : (cookie : Cookie) (count : ℕ) (item : Option (List ℕ)) → IsCount count item → skips_within cookie item ≡ skips_fewer cookie count
-skips_is cookie count None none =
-    sym (ap (λ (b : Bool). b && nat_eq (skipped_by cookie) (nat_abs cookie.bytes_to_skip)) (le-ltb (skipped_by cookie) count (omega (arith, none))))
-skips_is cookie count (Some cs) is = elim (cases_lt (skipped_by cookie) count) [
-  | inl less ↦ ap (λ (n : ℕ). nat_lt (skipped_by cookie) n && nat_eq (len (encode_utf8_all (take (skipped_by cookie) cs))) (nat_abs cookie.bytes_to_skip)) is.0
-      ∙ ap (λ (n : ℕ). nat_lt (skipped_by cookie) count && nat_eq n (nat_abs cookie.bytes_to_skip)) (is.1 (skipped_by cookie) less)
-  | inr past ↦ ap (λ (b : Bool). b && nat_eq (len (encode_utf8_all (take (skipped_by cookie) cs))) (nat_abs cookie.bytes_to_skip)) (le-ltb (skipped_by cookie) (len cs) (omega (arith, past, is.0)))
-      ∙ sym (ap (λ (b : Bool). b && nat_eq (skipped_by cookie) (nat_abs cookie.bytes_to_skip)) (le-ltb (skipped_by cookie) count past))
-]
-
--- whether the bytes that are fed are one item in which the cookie skips
-abbrev fits : Encoding → Handler → Cookie → List ℕ → Bool
-fits encoding handler cookie fed =
-    let walk = walk_from encoding (treatment handler encoding) cookie.need_eof (order_of cookie.dec_flags) (start_of cookie) 0 fed in
-    feeds cookie fed && skips_within cookie (only_item (fed_by cookie) walk.items walk.ending)
-
-restorable_is : (encoding : Encoding) (handler : Handler) (cookie : Cookie) (fed : List ℕ) (file : TextFile) → FeedsOf encoding handler cookie fed file → is_restorable file cookie ≡ (file.can.readable && fits encoding handler cookie fed)
-restorable_is encoding handler cookie fed file of =
-    ap (λ (e : Encoding). file.can.readable && fits e file.settings.handler cookie (fed_bytes file cookie)) of.encoding_is
-    ∙ (ap (λ (h : Handler). file.can.readable && fits encoding h cookie (fed_bytes file cookie)) of.handler_is
-    ∙ ap (λ (bs : List ℕ). file.can.readable && fits encoding handler cookie bs) (sym of.fed_are))
-
-pub restores_none : (encoding : Encoding) (handler : Handler) (cookie : Cookie) (fed : List ℕ) → feeds cookie fed ≡ false → (file : TextFile) → FeedsOf encoding handler cookie fed file → is_restorable file cookie ≡ (file.can.readable && false)
-restores_none encoding handler cookie fed none file of =
-    let walk : Walk = walk_from encoding (treatment handler encoding) cookie.need_eof (order_of cookie.dec_flags) (start_of cookie) 0 fed in
-    restorable_is encoding handler cookie fed file of
-    ∙ ap (λ (b : Bool). file.can.readable && (b && skips_within cookie (only_item (fed_by cookie) walk.items walk.ending))) none
-
-pub restores_some : (encoding : Encoding) (handler : Handler) (cookie : Cookie) (fed : List ℕ) (count : ℕ) → feeds cookie fed ≡ true → Counted count encoding handler cookie.need_eof (order_of cookie.dec_flags) (start_of cookie) fed → (file : TextFile) → FeedsOf encoding handler cookie fed file → is_restorable file cookie ≡ (file.can.readable && skips_fewer cookie count)
-restores_some encoding handler cookie fed count some is file of =
-    let walk : Walk = walk_from encoding (treatment handler encoding) cookie.need_eof (order_of cookie.dec_flags) (start_of cookie) 0 fed in
-    let size : len fed ≡ fed_by cookie = eqb-true (len fed) (fed_by cookie) (and_parts _ _ (and_parts _ _ some).1).1 in
-    restorable_is encoding handler cookie fed file of
-    ∙ (ap (λ (b : Bool). file.can.readable && (b && skips_within cookie (only_item (fed_by cookie) walk.items walk.ending))) some
-    ∙ (ap (λ (n : ℕ). file.can.readable && skips_within cookie (only_item n walk.items walk.ending)) (sym size)
-    ∙ ap (λ (b : Bool). file.can.readable && b) (skips_is cookie count (only_item (len fed) walk.items walk.ending) is)))
