@@ -12,7 +12,8 @@ use Rattle.py_plain_text.proofs.Unbroken.{Unbroken}
 use Rattle.py_plain_text.proofs.Translated.{universal_both, joins, apart, onto_cr, unbroken_stay, none_read, one_read}
 use Rattle.py_telling.specs.Spots.{is_universal, holds, adds}
 
-none_and : (a b : Bool) → b ≡ false → (a && b) ≡ false
+-- two tests of which the second fails
+pub none_and : (a b : Bool) → b ≡ false → (a && b) ≡ false
 none_and true b none = none
 none_and false b none = refl
 

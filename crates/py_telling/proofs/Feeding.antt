@@ -7,20 +7,16 @@ use Rattle.py_plain.specs.declared.encoding.Encoding.{Encoding}
 use Rattle.py_plain.specs.declared.handler.Handler.{Handler}
 use Rattle.py_plain.specs.Units.{Order}
 use Rattle.py_plain.specs.Handlers.{Treatment, treatment}
-use Rattle.py_plain.specs.Items.{Item, Ending, AtEnd, AtRange, AtCut, Walk, ends, Given, first_item, onto_walk}
+use Rattle.py_plain.specs.Items.{Item, Ending, AtEnd, AtRange, AtCut, Walk, Given, first_item, onto_walk}
 use Rattle.py_plain.specs.Pieces.{walk_at}
 use Rattle.py_plain_text.specs.Landing.{only_item}
 use Rattle.py_telling.specs.declared.seen_item.SeenItem.TheVariants as seen
 use Rattle.py_telling.specs.Seen.{StandFor, Shows}
 use Rattle.py_telling.specs.Restoring.{IsCount}
 use Rattle.py_telling.proofs.Ranges.{ascii_encoded}
-use Rattle.py_telling.proofs.Walking.{step_by, IsNoItem, ended_by, seen_character, seen_replaced}
+use Rattle.py_telling.proofs.Walking.{step_by, none_left, IsNoItem, ended_by, seen_character, seen_replaced}
 
 -- One item.
-
-none_left : (encoding : Encoding) (treat : Treatment) (last : Bool) (order : Order) (place : ℕ) (bytes : List ℕ) → len bytes ≡ 0 → walk_at encoding treat last order place bytes ≡ ends order AtEnd
-none_left encoding treat last order place [] none = refl
-none_left encoding treat last order place (byte ∷ rest) none = absurd (omega (arith, none))
 
 -- the one item that some bytes are
 abbrev one_in : Encoding → Handler → Bool → Order → ℕ → List ℕ → Option (List ℕ)

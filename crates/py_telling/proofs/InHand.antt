@@ -19,7 +19,7 @@ use Rattle.py_plain_text.proofs.Translated.{none_read}
 use Rattle.py_plain_text.proofs.Inside.{treat_of, read_of, Walks, Begins, begins}
 use Rattle.py_telling.specs.Spots.{at_byte, spot_cookie, adds, lf_in, behind_lf, spot_behind, items_from}
 use Rattle.py_telling.specs.InHand.{surely_given, StandsBehind, LieIn}
-use Rattle.py_telling.proofs.Walking.{spot_step, spot_inside, spot_reached}
+use Rattle.py_telling.proofs.Walking.{nothing, spot_step, spot_inside, spot_reached}
 use Rattle.py_telling.proofs.Counting.{none_held, holds_more, grows, so_far_within, so_far_long}
 use Rattle.py_telling.proofs.Boundaries.{held_of}
 use Rattle.py_telling.proofs.Telling.{told_at_spot}
@@ -35,10 +35,6 @@ lf_front_in here item items behind (c ∷ cs) same some = refl
 lf_front : (here : ℕ) (items behind : List Item) → 1 ≤ len (characters_of items) → behind_lf here (items ++ behind) ≡ behind_lf here items
 lf_front here [] behind some = absurd (omega (arith, some))
 lf_front here (item ∷ items) behind some = lf_front_in here item items behind item.characters (lf_front here items behind) some
-
-empty : (cs : List ℕ) → len cs ≡ 0 → cs ≡ []
-empty [] none = refl
-empty (c ∷ cs) none = absurd (omega (arith, none))
 
 not_held : (held : Bool) → len (released held) ≡ 0 → held ≡ false
 not_held true none = absurd (omega (arith, none))
@@ -59,8 +55,8 @@ reached_front : (file : TextFile) (place : ℕ) (before : List ℕ) (items behin
 reached_front file place before items behind true is sure = elim (cases_lt 0 (len (characters_of items))) [
   | inl some ↦ lf_front place items behind (omega (arith, some))
   | inr none ↦ (
-      let nothing : characters_of items ≡ [] = empty (characters_of items) (omega (arith, none)) in
-      let same : before ++ characters_of items ≡ before = ap (λ (t : List ℕ). before ++ t) nothing ∙ append-nil before in
+      let none_come : characters_of items ≡ [] = nothing (characters_of items) (omega (arith, none)) in
+      let same : before ++ characters_of items ≡ before = ap (λ (t : List ℕ). before ++ t) none_come ∙ append-nil before in
       let unheld = (all_given file before 0 (omega (arith, sure, ap (so_far file) same))).1 in
       absurd (true≢false (sym is ∙ unheld))
       )

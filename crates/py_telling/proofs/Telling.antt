@@ -14,11 +14,11 @@ use Rattle.py_plain_text.specs.Rest.{front_characters, decoded}
 use Rattle.py_plain_text.specs.Cookie.{Cookie, boundary_cookie, flags_of}
 use Rattle.py_plain_text.specs.Telling.{Inside, gives_rest, end_of_item, boundaries, inside_items, inside_of, inside_cookie, told_inside, told_at, told}
 use Rattle.py_plain_text.proofs.Translated.{none_read}
-use Rattle.py_plain_text.proofs.Inside.{read_of, Begins, begins}
+use Rattle.py_plain_text.proofs.Inside.{read_of, Begins, begins, same_way}
 use Rattle.py_telling.specs.Spots.{at_byte, spot_cookie, is_universal, holds, adds, lf_in, behind_lf, spot_behind}
 use Rattle.py_telling.proofs.Ranges.{Signs, item_signs, signs_encoded}
 use Rattle.py_telling.proofs.Walking.{spot_step, spot_inside, spot_reached}
-use Rattle.py_telling.proofs.Counting.{Kind, none_held, holds_more, grows, many_unheld, adds_within, joint}
+use Rattle.py_telling.proofs.Counting.{none_and, Kind, none_held, holds_more, grows, many_unheld, adds_within, joint}
 use Rattle.py_telling.proofs.Boundaries.{either, held_of, StandsAmong, gives_count, gives_here, stands_next, IsPast, find_next, none_gives}
 
 -- What is told.
@@ -28,12 +28,8 @@ abbrev told_from : TextFile → Option ℕ → Option Inside → Cookie
 told_from file (Some boundary) inside = boundary_cookie boundary (flags_of file.place.order)
 told_from file None inside = told_inside file inside
 
-same_order : (test : Bool) (order : Order) → (if test then order else order) ≡ order
-same_order true order = refl
-same_order false order = refl
-
 told_is : (file : TextFile) (found : Option ℕ) → told_at file found ≡ told_from file found (inside_of file file.place.front)
-told_is file (Some boundary) = ap (λ (o : Order). boundary_cookie boundary (flags_of o)) (same_order (nat_eq boundary file.place.at) file.place.order)
+told_is file (Some boundary) = ap (λ (o : Order). boundary_cookie boundary (flags_of o)) (same_way (nat_eq boundary file.place.at) file.place.order)
 told_is file None = refl
 
 -- what is told from a boundary on, behind some characters
@@ -129,10 +125,6 @@ told_within file reads unknown ending place before item items left stands begin 
     ∙ ap spot_cookie (sym (spot_inside file.settings.newline left held place item items some less))))
 
 -- All items.
-
-none_and : (a b : Bool) → b ≡ false → (a && b) ≡ false
-none_and true b none = none
-none_and false b none = refl
 
 -- an item with an LF that is one with a CR adds nothing, and the spot is behind it
 joint_adds : (held : Bool) (cs more : List ℕ) → Kind cs → (held && begins_with_lf (cs ++ more)) ≡ true → adds held cs ≡ 0

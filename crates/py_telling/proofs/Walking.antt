@@ -9,12 +9,13 @@ use Rattle.py_plain.specs.declared.handler.Handler.{Handler}
 use Rattle.py_plain.specs.declared.newlines.Newlines.{Newlines}
 use Rattle.py_plain.specs.Units.{Order, Unknown}
 use Rattle.py_plain.specs.Handlers.{Treatment, treatment}
-use Rattle.py_plain.specs.Items.{Item, Walk, FirstItem, Given, RefusedRange, Unfinished, first_item, onto_walk}
+use Rattle.py_plain.specs.Items.{Item, AtEnd, Walk, ends, FirstItem, Given, RefusedRange, Unfinished, first_item, onto_walk}
 use Rattle.py_plain.specs.NewlineRule.{ends_held}
 use Rattle.py_plain.specs.Pieces.{walk_at}
 use Rattle.py_plain.proofs.Walks.{walk-given}
 use Rattle.py_telling.specs.declared.seen_item.SeenItem.TheVariants as seen
 use Rattle.py_telling.specs.Seen.{HaveNoLineEnd, StandFor, Shows}
+use Rattle.py_telling.proofs.Counting.{none_and}
 use Rattle.py_telling.specs.Spots.{Spot, at_byte, is_universal, holds, adds, lf_in, behind_lf, spot_behind, items_from}
 
 -- The items from one of the bytes on.
@@ -40,12 +41,12 @@ items_step encoding handler last place at bytes cs used inside some is =
     ∙ (ap (λ (p : ℕ). item_at (place + at) cs used ∷ (walk_at encoding treat last Unknown p (drop used (drop at bytes))).items) far
     ∙ ap (λ (bs : List ℕ). item_at (place + at) cs used ∷ (walk_at encoding treat last Unknown (place + (at + used)) bs).items) behind)
 
-none_behind : (encoding : Encoding) (treat : Treatment) (last : Bool) (place : ℕ) (bytes : List ℕ) → len bytes ≡ 0 → (walk_at encoding treat last Unknown place bytes).items ≡ []
-none_behind encoding treat last place [] none = refl
-none_behind encoding treat last place (byte ∷ rest) none = absurd (omega (arith, none))
+pub none_left : (encoding : Encoding) (treat : Treatment) (last : Bool) (order : Order) (place : ℕ) (bytes : List ℕ) → len bytes ≡ 0 → walk_at encoding treat last order place bytes ≡ ends order AtEnd
+none_left encoding treat last order place [] none = refl
+none_left encoding treat last order place (byte ∷ rest) none = absurd (omega (arith, none))
 
 pub items_past : (encoding : Encoding) (handler : Handler) (last : Bool) (place at : ℕ) (bytes : List ℕ) → len bytes ≤ at → items_from encoding handler last place at bytes ≡ []
-items_past encoding handler last place at bytes past = none_behind encoding (treatment handler encoding) last (place + at) (drop at bytes) (omega (arith, past, length-drop at bytes))
+items_past encoding handler last place at bytes past = ap (λ (w : Walk). w.items) (none_left encoding (treatment handler encoding) last Unknown (place + at) (drop at bytes) (omega (arith, past, length-drop at bytes)))
 
 -- what ends a walk
 abbrev pub IsNoItem : FirstItem → Type 0
@@ -96,7 +97,7 @@ first_from encoding handler last place at bytes = first_item encoding (treatment
 pub items_ended : (encoding : Encoding) (handler : Handler) (last : Bool) (place at : ℕ) (bytes : List ℕ) → IsNoItem (first_from encoding handler last place at bytes) → items_from encoding handler last place at bytes ≡ []
 items_ended encoding handler last place at bytes none = ended_by encoding (treatment handler encoding) last Unknown (place + at) (drop at bytes) none
 
-nothing : (cs : List ℕ) → len cs ≡ 0 → cs ≡ []
+pub nothing : (cs : List ℕ) → len cs ≡ 0 → cs ≡ []
 nothing [] none = refl
 nothing (c ∷ cs) none = absurd (omega (arith, none))
 
@@ -184,10 +185,6 @@ ends_unheld (c ∷ cs) unbroken =
     let isnt = unbroken.1 in
     let other : nat_eq c cr ≡ false = grind (arith, nat_tests) in
     ap (λ (b : Bool). ends_held b cs) other ∙ ends_unheld cs unbroken.2
-
-none_and : (a b : Bool) → b ≡ false → (a && b) ≡ false
-none_and true b none = none
-none_and false b none = refl
 
 all_and : (a b : Bool) → b ≡ true → (a && b) ≡ a
 all_and true b all = all
