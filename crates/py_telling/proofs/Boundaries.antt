@@ -31,7 +31,7 @@ pub record StandsAmong (file : TextFile) (ending : Ending) (place : ℕ) (before
   pub within : file.place.taken ≤ len (read_of file (before ++ characters_of items))
 
 -- a boundary that gives what is left
-gives_is : (file : TextFile) (ending : Ending) (place : ℕ) (items : List Item) → Walks file place items ending → gives_rest file place ≡ true → read_of file (characters_of items) ≡ (text_rest file).characters
+pub gives_is : (file : TextFile) (ending : Ending) (place : ℕ) (items : List Item) → Walks file place items ending → gives_rest file place ≡ true → read_of file (characters_of items) ≡ (text_rest file).characters
 gives_is file ending place items walks gives =
     let order : order_at file place ≡ file.place.order = same_way (nat_eq place file.place.at) file.place.order in
     let parts = and_parts _ _ gives in

@@ -61,7 +61,7 @@ lf_comes_in : (here there : ℕ) (item : Item) (items : List Item) (cs : List �
 lf_comes_in here there item items [] behind is = behind is
 lf_comes_in here there item items (c ∷ cs) behind is = cond-true (nat_eq c lf) (end_of_item item) here is ∙ sym (cond-true (nat_eq c lf) (end_of_item item) there is)
 
-lf_comes : (here there : ℕ) (items : List Item) → begins_with_lf (characters_of items) ≡ true → behind_lf here items ≡ behind_lf there items
+pub lf_comes : (here there : ℕ) (items : List Item) → begins_with_lf (characters_of items) ≡ true → behind_lf here items ≡ behind_lf there items
 lf_comes here there [] is = absurd (false≢true is)
 lf_comes here there (item ∷ items) is = lf_comes_in here there item items item.characters (lf_comes here there items) is
 
@@ -90,7 +90,7 @@ told_next file place before item items left kind fails counted within behind =
 
 -- Inside an item.
 
-inside_is : (order : Order) (start size left : ℕ) (taken : List ℕ) → order ≡ Unknown → 1 ≤ left → len taken ≡ left → len (encode_utf8_all taken) ≡ left → inside_cookie order (record { start = start; length = size; taken = taken }) ≡ spot_cookie (record { start = start; length = size; skipped = left })
+pub inside_is : (order : Order) (start size left : ℕ) (taken : List ℕ) → order ≡ Unknown → 1 ≤ left → len taken ≡ left → len (encode_utf8_all taken) ≡ left → inside_cookie order (record { start = start; length = size; taken = taken }) ≡ spot_cookie (record { start = start; length = size; skipped = left })
 inside_is order start size left taken unknown some long bytes =
     let isnt : nat_eq left 0 ≡ false = grind (arith, nat_tests) in
     let inside : Cookie = record { start_pos = pos start; dec_flags = pos 0; bytes_to_feed = pos size; chars_to_skip = pos left; need_eof = true; bytes_to_skip = pos left } in
@@ -148,7 +148,7 @@ joint_in newline left here item items (c ∷ cs) (inl single) none is =
     ∙ ap (λ (held : Bool). spot_behind newline (left - adds true (c ∷ cs)) held (end_of_item item) items) (sym unheld))
 joint_in newline left here item items (c ∷ cs) (inr unbroken) none is = absurd (omega (arith, unbroken.0, eqb-true c lf is))
 
-joint_spot : (newline : Newlines) (left : ℕ) (held : Bool) (here : ℕ) (item : Item) (items : List Item) → Kind item.characters → left ≡ 0 → (held && begins_with_lf (item.characters ++ characters_of items)) ≡ true → spot_behind newline left held here (item ∷ items) ≡ spot_behind newline (left - adds held item.characters) (holds newline held item.characters) (end_of_item item) items
+pub joint_spot : (newline : Newlines) (left : ℕ) (held : Bool) (here : ℕ) (item : Item) (items : List Item) → Kind item.characters → left ≡ 0 → (held && begins_with_lf (item.characters ++ characters_of items)) ≡ true → spot_behind newline left held here (item ∷ items) ≡ spot_behind newline (left - adds held item.characters) (holds newline held item.characters) (end_of_item item) items
 joint_spot newline left true here item items kind none is = spot_reached newline left true here (item ∷ items) none ∙ joint_in newline left here item items item.characters kind none is
 joint_spot newline left false here item items kind none is = absurd (false≢true is)
 

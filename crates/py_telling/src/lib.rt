@@ -4,10 +4,12 @@
 //! says whether a cookie that skips characters fits the bytes that lie at its start. Both take no memory.
 #![tactic(auto)]
 
+mod laws;
 mod restoring;
 mod seen_item;
 mod told;
 
+pub use laws::{told_behind_a_front, told_from_a_base};
 pub use py_plain_text::TextIOCookie;
 pub use restoring::restores;
 pub use told::{Told, told_among};
