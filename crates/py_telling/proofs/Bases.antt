@@ -10,14 +10,13 @@ use Rattle.py_plain.specs.Items.{Item, Walk, Ending, characters_of}
 use Rattle.py_plain.specs.Pieces.{walk_at}
 use Rattle.py_plain.proofs.Walks.{characters-append}
 use Rattle.py_plain_text.specs.TextFile.{Front, TextFile, clean_at}
-use Rattle.py_plain_text.specs.Rest.{Rest, front_characters, decoded, text_rest}
-use Rattle.py_plain_text.specs.Cookie.{Cookie}
+use Rattle.py_plain_text.specs.Rest.{Rest, front_characters, decoded}
 use Rattle.py_plain_text.specs.Telling.{placed, end_of_item, told}
 use Rattle.py_plain_text.proofs.Translated.{none_read}
 use Rattle.py_plain_text.proofs.Inside.{treat_of, from_byte, read_of, Walks, Begins, begins}
-use Rattle.py_telling.specs.Spots.{Spot, at_byte, spot_cookie, holds, adds, lf_in, behind_lf, spot_behind}
+use Rattle.py_telling.specs.Spots.{spot_cookie, holds, adds, spot_behind}
 use Rattle.py_telling.specs.Bases.{given_since, GoesOnFrom}
-use Rattle.py_telling.proofs.Walking.{nothing, spot_step, spot_inside, spot_reached}
+use Rattle.py_telling.proofs.Walking.{nothing, spot_step, spot_inside}
 use Rattle.py_telling.proofs.Counting.{Kind, none_held, holds_more, held_added, grows, adds_within, joint, parted, joined}
 use Rattle.py_telling.proofs.Boundaries.{either, held_of}
 use Rattle.py_telling.proofs.Telling.{joint_spot, told_at_spot}

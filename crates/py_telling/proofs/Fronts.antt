@@ -1,13 +1,13 @@
 -- What is told of a text that was put inside an item.
-use Rattle.std.proofs.Common.{◌≡◌, inl, inr, ℕ, ◌+◌, ◌-◌, ◌<◌, ◌≤◌, Bool, true, false, nat_lt, if◌then◌else◌, List, [], ◌∷◌, ◌++◌, length as len, map, find, take, drop, Option, Some, None, encode_utf8_all, refl, sym, ap, subst, ◌∙◌, arith, append-nil}
+use Rattle.std.proofs.Common.{◌≡◌, ℕ, ◌+◌, ◌-◌, ◌<◌, ◌≤◌, Bool, true, false, nat_lt, List, [], ◌∷◌, ◌++◌, length as len, map, find, take, drop, Option, Some, None, encode_utf8_all, refl, sym, ap, subst, ◌∙◌, arith, append-nil}
 use Rattle.std.proofs.lemmas.Bool.{and_parts, false_from_ne_true, lt-ltb, le-ltb, cond-true, cond-false}
 use Rattle.std.proofs.lemmas.List.{length-append, length-drop, length-take-le, drop-take}
 use Rattle.std.proofs.Math.Seq.{drop-append-add}
 use Rattle.py_plain.specs.declared.newlines.Newlines.{Newlines}
-use Rattle.py_plain.specs.Units.{Order, Unknown}
+use Rattle.py_plain.specs.Units.{Unknown}
 use Rattle.py_plain.specs.Handlers.{reads_texts}
 use Rattle.py_plain.specs.Items.{Item, Ending, AtEnd, walk_from, characters_of, refusal_of}
-use Rattle.py_plain.specs.NewlineRule.{released, read_so_far, translated}
+use Rattle.py_plain.specs.NewlineRule.{released, translated}
 use Rattle.py_plain_text.specs.TextFile.{Front, TextFile, clean_at}
 use Rattle.py_plain_text.specs.Rest.{Rest, front_characters, decoded, text_rest}
 use Rattle.py_plain_text.specs.Cookie.{Cookie, boundary_cookie, flags_of}

@@ -160,7 +160,7 @@ fn spot_among(
 }
 
 /// Where a text stands of which so many characters were given since a place, by the bytes in hand from there on; `last` says that none
-/// come behind them.
+/// come behind them. It is what the text tells where these bytes surely give so many, whatever comes behind them.
 ///
 /// It is the first byte between two characters, or refused ranges, from which the text goes on as it does, never one inside CR LF that is
 /// read as one; and where there is none, inside the characters that stand for one refused range. Each byte is read once, or twice.
@@ -175,8 +175,8 @@ pub fn told_among(
 ) -> Told
     requires reads { reads_texts handler ≡ true }
     requires near { place + length bytes.now ≤ greatest_place }
-    requires known { given ≤ length (surely_given encoding handler newline last bytes.now) }
-    ensures told { (file : TextFile) → StandsBehind encoding handler newline place given file → LieIn last place bytes.now file
+    ensures told { given ≤ length (surely_given encoding handler newline last bytes.now)
+        → (file : TextFile) → StandsBehind encoding handler newline place given file → LieIn last place bytes.now file
         → told_shown result ≡ told file }
     ensures within { IsTold result }
 {

@@ -4,6 +4,6 @@ use Rattle.py_telling.proofs.InHand.{told_in_hand}
 use Rattle.py_telling.proofs.told.told_among.Goals as goal
 
 pub returns-clause-told : goal.returns-clause-told
-returns-clause-told c = λ file stands lies.
+returns-clause-told c = λ sure file stands lies.
     ap spot_cookie c.spot_among.ensures.spot
-    ∙ told_in_hand c.args.encoding c.args.handler c.args.newline c.args.last c.args.bytes.now c.args.place c.args.given c.requires.reads c.requires.known file stands lies
+    ∙ told_in_hand c.args.encoding c.args.handler c.args.newline c.args.last c.args.bytes.now c.args.place c.args.given c.requires.reads sure file stands lies
