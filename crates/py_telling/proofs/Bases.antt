@@ -1,5 +1,5 @@
 -- What is told from a base is what is told from the text's own place.
-use Rattle.std.proofs.Common.{◌≡◌, ◌⊎◌, inl, inr, ℕ, suc, ◌+◌, ◌-◌, ◌≤◌, Bool, true, false, ◌&&◌, nat_eq, if◌then◌else◌, List, [], ◌∷◌, ◌++◌, length as len, drop, Option, refl, sym, ap, subst, ◌∙◌, arith, append-nil, append_assoc}
+use Rattle.std.proofs.Common.{◌≡◌, ◌⊎◌, inl, inr, ℕ, suc, ◌+◌, ◌-◌, ◌≤◌, Bool, true, false, ◌&&◌, nat_eq, if◌then◌else◌, List, [], ◌∷◌, ◌++◌, length as len, drop, refl, sym, ap, subst, ◌∙◌, arith, append-nil, append_assoc}
 use Rattle.std.proofs.lemmas.Bool.{and_parts, cases_lt, eqb-true}
 use Rattle.std.proofs.lemmas.List.{length-append, length-drop}
 use Rattle.py_flat.specs.Lines.{lf, begins_with_lf}
@@ -9,8 +9,8 @@ use Rattle.py_plain.specs.Handlers.{reads_texts}
 use Rattle.py_plain.specs.Items.{Item, Walk, Ending, characters_of}
 use Rattle.py_plain.specs.Pieces.{walk_at}
 use Rattle.py_plain.proofs.Walks.{characters-append}
-use Rattle.py_plain_text.specs.TextFile.{Front, TextFile, clean_at}
-use Rattle.py_plain_text.specs.Rest.{Rest, front_characters, decoded}
+use Rattle.py_plain_text.specs.TextFile.{TextFile, clean_at}
+use Rattle.py_plain_text.specs.Rest.{Rest, decoded}
 use Rattle.py_plain_text.specs.Telling.{placed, end_of_item, told}
 use Rattle.py_plain_text.proofs.Translated.{none_read}
 use Rattle.py_plain_text.proofs.Inside.{treat_of, from_byte, read_of, Walks, Begins, begins}
@@ -18,8 +18,8 @@ use Rattle.py_telling.specs.Spots.{spot_cookie, holds, adds, spot_behind}
 use Rattle.py_telling.specs.Bases.{given_since, GoesOnFrom}
 use Rattle.py_telling.proofs.Walking.{nothing, spot_step, spot_inside}
 use Rattle.py_telling.proofs.Counting.{Kind, none_held, holds_more, held_added, grows, adds_within, joint, parted, joined}
-use Rattle.py_telling.proofs.Boundaries.{either, held_of}
-use Rattle.py_telling.proofs.Telling.{joint_spot, told_at_spot}
+use Rattle.py_telling.proofs.Boundaries.{either, held_of, walks_next}
+use Rattle.py_telling.proofs.Telling.{joint_spot, left_behind, told_at_spot}
 
 -- An item that the spot lies behind.
 
@@ -49,10 +49,10 @@ joint_alone held (c ∷ cs) more (inl single) some is = ap len single.1
 joint_alone held (c ∷ cs) more (inr unbroken) some is = absurd (omega (arith, unbroken.0, eqb-true c lf (and_parts held (nat_eq c lf) is).1))
 
 -- what is told where a CR is held is what is told where none is, and an LF that is one with it isn't counted
-abbrev IsAlike : Newlines → (held : Bool) → (less left : ℕ) → (here : ℕ) → List Item → Type 0
-IsAlike newline held less left here items = spot_behind newline less held here items ≡ spot_behind newline left false here items
+abbrev TellsAlike : Newlines → (held : Bool) → (less left : ℕ) → (here : ℕ) → List Item → Type 0
+TellsAlike newline held less left here items = spot_behind newline less held here items ≡ spot_behind newline left false here items
 
-alike_some : (newline : Newlines) (held : Bool) (less left here : ℕ) (item : Item) (items : List Item) → Kind item.characters → 1 ≤ len item.characters → 1 ≤ left → (joins : Bool) → (held && begins_with_lf (item.characters ++ characters_of items)) ≡ joins → less + (if joins then 1 else 0) ≡ left → IsAlike newline held less left here (item ∷ items)
+alike_some : (newline : Newlines) (held : Bool) (less left here : ℕ) (item : Item) (items : List Item) → Kind item.characters → 1 ≤ len item.characters → 1 ≤ left → (joins : Bool) → (held && begins_with_lf (item.characters ++ characters_of items)) ≡ joins → less + (if joins then 1 else 0) ≡ left → TellsAlike newline held less left here (item ∷ items)
 alike_some newline held less left here item items kind several some true is counted =
     let cs : List ℕ = item.characters in
     let alone : len cs ≡ 1 = joint_alone held cs (characters_of items) kind several is in
@@ -88,7 +88,7 @@ passed newline held left here items cs none =
     ∙ ap (λ (t : List ℕ). spot_behind newline left (holds newline held t) here items) none
 
 -- an item without characters is passed
-alike_none : (newline : Newlines) (held : Bool) (less left here : ℕ) (item : Item) (items : List Item) → Kind item.characters → item.characters ≡ [] → 1 ≤ left → (joins : Bool) → (held && begins_with_lf (characters_of items)) ≡ joins → less + (if joins then 1 else 0) ≡ left → IsAlike newline held less left (end_of_item item) items → IsAlike newline held less left here (item ∷ items)
+alike_none : (newline : Newlines) (held : Bool) (less left here : ℕ) (item : Item) (items : List Item) → Kind item.characters → item.characters ≡ [] → 1 ≤ left → (joins : Bool) → (held && begins_with_lf (characters_of items)) ≡ joins → less + (if joins then 1 else 0) ≡ left → TellsAlike newline held less left (end_of_item item) items → TellsAlike newline held less left here (item ∷ items)
 alike_none newline held less left here item items kind none some joins is counted behind =
     let cs : List ℕ = item.characters in
     let whole : (held && begins_with_lf (cs ++ characters_of items)) ≡ joins = ap (λ (t : List ℕ). held && begins_with_lf (t ++ characters_of items)) none ∙ is in
@@ -101,30 +101,22 @@ alike_none newline held less left here item items kind none some joins is counte
     ∙ (sym (passes false left)
     ∙ sym (spot_step newline left false here item items some (omega (arith, empty, adds_within false cs))))))
 
-alike : (file : TextFile) → reads_texts file.settings.handler ≡ true → (ending : Ending) (place : ℕ) (items : List Item) → Walks file place items ending → (held : Bool) (less left : ℕ) → 1 ≤ left → (joins : Bool) → (held && begins_with_lf (characters_of items)) ≡ joins → less + (if joins then 1 else 0) ≡ left → IsAlike file.settings.newline held less left place items
+alike : (file : TextFile) → reads_texts file.settings.handler ≡ true → (ending : Ending) (place : ℕ) (items : List Item) → Walks file place items ending → (held : Bool) (less left : ℕ) → 1 ≤ left → (joins : Bool) → (held && begins_with_lf (characters_of items)) ≡ joins → less + (if joins then 1 else 0) ≡ left → TellsAlike file.settings.newline held less left place items
 alike file reads ending place [] walks held less left some joins is counted = refl
 alike file reads ending place (item ∷ items) walks held less left some joins is counted =
     let cs : List ℕ = item.characters in
     let begin : Begins file place item items ending = begins file reads place item items ending walks in
-    let there : place + item.length ≡ item.start + item.length = omega (arith, begin.start) in
-    let behind : Walks file (end_of_item item) items ending = subst (λ (p : ℕ). Walks file p items ending) there begin.behind in
     elim (cases_lt 0 (len cs)) [
       | inl several ↦ alike_some file.settings.newline held less left place item items begin.is.kind (omega (arith, several)) some joins is counted
       | inr none ↦ (
           let empty : cs ≡ [] = nothing cs (omega (arith, none)) in
           let next : (held && begins_with_lf (characters_of items)) ≡ joins = ap (λ (t : List ℕ). held && begins_with_lf (t ++ characters_of items)) (sym empty) ∙ is in
           alike_none file.settings.newline held less left place item items begin.is.kind empty some joins next counted
-          (alike file reads ending (end_of_item item) items behind held less left some joins next counted)
+          (alike file reads ending (end_of_item item) items (walks_next file place item items ending begin) held less left some joins next counted)
           )
     ]
 
 -- The items before a boundary.
-
--- the walk behind the first item
-walks_next : (file : TextFile) (place : ℕ) (item : Item) (items : List Item) (ending : Ending) → Begins file place item items ending → Walks file (end_of_item item) items ending
-walks_next file place item items ending begin =
-    let there : place + item.length ≡ item.start + item.length = omega (arith, begin.start) in
-    subst (λ (p : ℕ). Walks file p items ending) there begin.behind
 
 -- no fewer are given with items more
 never_fewer : (file : TextFile) → reads_texts file.settings.handler ≡ true → (ending : Ending) (place : ℕ) (before : List ℕ) (items more : List Item) → Walks file place (items ++ more) ending → len (read_of file before) ≤ len (read_of file (before ++ characters_of items))
@@ -208,10 +200,6 @@ spot_through file reads ending place base before (item ∷ items) more left rest
     ∙ ap (λ (t : List ℕ). spot_behind newline rest (held_of file t) base more) same))
 
 -- What is told.
-
--- what is left behind no front
-abbrev left_behind : TextFile → Option Front → List ℕ
-left_behind file front = drop file.place.taken (front_characters file.settings file.place.order file.bytes front ++ read_of file (characters_of (decoded file).items))
 
 -- the items from a base on
 abbrev items_since : TextFile → (base : ℕ) → List Item

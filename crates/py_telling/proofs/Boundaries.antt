@@ -61,13 +61,18 @@ gives_here file ending place before items stands alone counted =
     ∙ drop-append_seam (read_of file before) (read_of file (characters_of items)))) in
     gives_at file place items ending stands.walks (sym left) (sym stands.refusal)
 
+-- the walk behind an item
+pub walks_next : (file : TextFile) (place : ℕ) (item : Item) (items : List Item) (ending : Ending) → Begins file place item items ending → Walks file (end_of_item item) items ending
+walks_next file place item items ending begin =
+    let there : place + item.length ≡ item.start + item.length = omega (arith, begin.start) in
+    subst (λ (p : ℕ). Walks file p items ending) there begin.behind
+
 -- the next boundary
 pub stands_next : (file : TextFile) (ending : Ending) (place : ℕ) (before : List ℕ) (item : Item) (items : List Item) → StandsAmong file ending place before (item ∷ items) → Begins file place item items ending → StandsAmong file ending (end_of_item item) (before ++ item.characters) items
 stands_next file ending place before item items stands begin =
-    let there : place + item.length ≡ item.start + item.length = omega (arith, begin.start) in
     let same : before ++ (item.characters ++ characters_of items) ≡ (before ++ item.characters) ++ characters_of items = sym (append_assoc before item.characters (characters_of items)) in
     record {
-      walks = subst (λ (p : ℕ). Walks file p items ending) there begin.behind;
+      walks = walks_next file place item items ending begin;
       characters = stands.characters ∙ ap (λ (t : List ℕ). drop file.place.taken (read_of file t)) same;
       refusal = stands.refusal;
       within = subst (λ (t : List ℕ). file.place.taken ≤ len (read_of file t)) same stands.within;

@@ -1,5 +1,5 @@
 -- What is told of a text that was put inside an item.
-use Rattle.std.proofs.Common.{◌≡◌, ℕ, ◌+◌, ◌-◌, ◌<◌, ◌≤◌, Bool, true, false, nat_lt, List, [], ◌∷◌, ◌++◌, length as len, map, find, take, drop, Option, Some, None, encode_utf8_all, refl, sym, ap, subst, ◌∙◌, arith, append-nil}
+use Rattle.std.proofs.Common.{◌≡◌, ℕ, ◌+◌, ◌-◌, ◌<◌, ◌≤◌, Bool, true, false, nat_lt, List, [], ◌∷◌, ◌++◌, length as len, map, find, take, drop, Option, Some, None, encode_utf8_all, refl, sym, ap, ◌∙◌, arith, append-nil}
 use Rattle.std.proofs.lemmas.Bool.{and_parts, false_from_ne_true, lt-ltb, le-ltb, cond-true, cond-false}
 use Rattle.std.proofs.lemmas.List.{length-append, length-drop, length-take-le, drop-take}
 use Rattle.std.proofs.Math.Seq.{drop-append-add}
@@ -9,7 +9,7 @@ use Rattle.py_plain.specs.Handlers.{reads_texts}
 use Rattle.py_plain.specs.Items.{Item, Ending, AtEnd, walk_from, characters_of, refusal_of}
 use Rattle.py_plain.specs.NewlineRule.{released, translated}
 use Rattle.py_plain_text.specs.TextFile.{Front, TextFile, clean_at}
-use Rattle.py_plain_text.specs.Rest.{Rest, front_characters, decoded, text_rest}
+use Rattle.py_plain_text.specs.Rest.{Rest, decoded, text_rest}
 use Rattle.py_plain_text.specs.Cookie.{Cookie, boundary_cookie, flags_of}
 use Rattle.py_plain_text.specs.CookieLaws.{IsFront}
 use Rattle.py_plain_text.specs.Telling.{Inside, order_at, effective_order, placed, same_rest, gives_rest, end_of_item, boundaries, front_left, inside_front, inside_decoded, inside_of, inside_cookie, told_inside, told_at, told}
@@ -18,8 +18,8 @@ use Rattle.py_telling.specs.Spots.{spot_cookie}
 use Rattle.py_telling.specs.Bases.{behind_front, front_spot}
 use Rattle.py_telling.proofs.Ranges.{Signs, item_signs, signs_encoded}
 use Rattle.py_telling.proofs.Counting.{held_behind_all, joint, parted, joined, so_far_long}
-use Rattle.py_telling.proofs.Boundaries.{gives_is, find_next}
-use Rattle.py_telling.proofs.Telling.{inside_is}
+use Rattle.py_telling.proofs.Boundaries.{gives_is, walks_next, find_next}
+use Rattle.py_telling.proofs.Telling.{inside_is, left_behind}
 
 -- What is told by what is left, and by the item in which the text stands.
 
@@ -40,10 +40,6 @@ told_by file rest inside = told_found file (first_with file rest) inside
 
 told_is : (file : TextFile) (front : Option Front) → file.place.front ≡ front → told file ≡ told_by file (text_rest file) (inside_of file front)
 told_is file front is = found_is file (first_with file (text_rest file)) ∙ ap (λ (f : Option Front). told_by file (text_rest file) (inside_of file f)) is
-
--- what is left behind a front
-abbrev left_behind : TextFile → Option Front → List ℕ
-left_behind file front = drop file.place.taken (front_characters file.settings file.place.order file.bytes front ++ read_of file (characters_of (decoded file).items))
 
 -- All of the front was taken.
 
@@ -90,11 +86,10 @@ none_long file reads ending place [] walks less =
     find_next (gives_rest file) place [] (false_from_ne_true (gives_rest file place) (λ gives. omega (arith, less, ap len (gives_is file ending place [] walks gives))))
 none_long file reads ending place (item ∷ items) walks less =
     let begin : Begins file place item items ending = begins file reads place item items ending walks in
-    let there : place + item.length ≡ item.start + item.length = omega (arith, begin.start) in
     let cs : List ℕ = item.characters in
     let fewer : len (read_of file (characters_of items)) ≤ len (read_of file (cs ++ characters_of items)) = behind_fewer file.settings.newline cs (characters_of items) (joint file.settings.newline cs (characters_of items)) refl in
     find_next (gives_rest file) place (map end_of_item (item ∷ items)) (false_from_ne_true (gives_rest file place) (λ gives. omega (arith, less, ap len (gives_is file ending place (item ∷ items) walks gives))))
-    ∙ none_long file reads ending (end_of_item item) items (subst (λ (p : ℕ). Walks file p items ending) there begin.behind) (omega (arith, less, fewer))
+    ∙ none_long file reads ending (end_of_item item) items (walks_next file place item items ending begin) (omega (arith, less, fewer))
 
 pub told_in_front : (file : TextFile) (front : Front) → reads_texts file.settings.handler ≡ true → file.place.front ≡ Some front → file.place.taken < len (front_left file front) → told file ≡ inside_cookie (effective_order file) (inside_front file front)
 told_in_front file front reads is less =

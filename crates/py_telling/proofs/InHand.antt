@@ -21,7 +21,7 @@ use Rattle.py_telling.specs.Spots.{at_byte, spot_cookie, adds, lf_in, behind_lf,
 use Rattle.py_telling.specs.InHand.{surely_read, surely_given, StandsBehind, LieIn}
 use Rattle.py_telling.proofs.Walking.{nothing, spot_step, spot_inside, spot_reached}
 use Rattle.py_telling.proofs.Counting.{none_held, holds_more, grows, so_far_within, so_far_long}
-use Rattle.py_telling.proofs.Boundaries.{held_of}
+use Rattle.py_telling.proofs.Boundaries.{held_of, walks_next}
 use Rattle.py_telling.proofs.Telling.{told_at_spot}
 use Rattle.py_telling.proofs.Anywhere.{alike_anywhere}
 
@@ -74,8 +74,7 @@ spot_front file reads ending place before (item ∷ items) behind left walks sur
     let held : Bool = held_of file before in
     let newline : Newlines = file.settings.newline in
     let begin : Begins file place item (items ++ behind) ending = begins file reads place item (items ++ behind) ending walks in
-    let there : place + item.length ≡ item.start + item.length = omega (arith, begin.start) in
-    let walks_behind : Walks file (end_of_item item) (items ++ behind) ending = subst (λ (p : ℕ). Walks file p (items ++ behind) ending) there begin.behind in
+    let walks_behind : Walks file (end_of_item item) (items ++ behind) ending = walks_next file place item (items ++ behind) ending begin in
     elim (cases_lt 0 left) [
       | inl some ↦ elim (cases_lt left (adds held cs)) [
         | inl less ↦ spot_inside newline left held place item (items ++ behind) (omega (arith, some)) less ∙ sym (spot_inside newline left held place item items (omega (arith, some)) less)

@@ -195,9 +195,9 @@ told_spot file reads unknown ending place before (item ∷ items) left stands co
       ]
     ]
 
--- a text behind no front
-abbrev behind_front : TextFile → Option Front → List ℕ
-behind_front file front = drop file.place.taken (front_characters file.settings file.place.order file.bytes front ++ read_of file (characters_of (decoded file).items))
+-- what is left of a text behind a front, or none
+abbrev pub left_behind : TextFile → Option Front → List ℕ
+left_behind file front = drop file.place.taken (front_characters file.settings file.place.order file.bytes front ++ read_of file (characters_of (decoded file).items))
 
 -- the cookie of a text of which so many characters were given since a byte
 pub told_at_spot : (file : TextFile) → reads_texts file.settings.handler ≡ true → file.place.order ≡ Unknown → file.place.front ≡ None → file.place.taken ≤ len (read_of file (characters_of (decoded file).items)) → told file ≡ spot_cookie (spot_behind file.settings.newline file.place.taken false file.place.at (decoded file).items)
@@ -205,7 +205,7 @@ told_at_spot file reads unknown front within =
     let items : List Item = (decoded file).items in
     let stands : StandsAmong file (decoded file).ending file.place.at [] items = record {
       walks = record { items_are = refl; ending_is = refl };
-      characters = ap (behind_front file) front;
+      characters = ap (left_behind file) front;
       refusal = refl;
       within = within;
     } in
