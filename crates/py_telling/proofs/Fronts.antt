@@ -91,17 +91,22 @@ none_long file reads ending place (item ∷ items) walks less =
     find_next (gives_rest file) place (map end_of_item (item ∷ items)) (false_from_ne_true (gives_rest file place) (λ gives. omega (arith, less, ap len (gives_is file ending place (item ∷ items) walks gives))))
     ∙ none_long file reads ending (end_of_item item) items (walks_next file place item items ending begin) (omega (arith, less, fewer))
 
+pub none_in_front : (file : TextFile) (front : Front) → reads_texts file.settings.handler ≡ true → file.place.front ≡ Some front → file.place.taken < len (front_left file front) → find (gives_rest file) (boundaries file) ≡ None
+none_in_front file front reads is less =
+    let taken : ℕ = file.place.taken in
+    let left : List ℕ = front_left file front in
+    let more : List ℕ = read_of file (characters_of (decoded file).items) in
+    let longer : len more < len (text_rest file).characters = omega (arith, less, ap len (ap (left_behind file) is), length-drop taken (left ++ more), length-append left more) in
+    none_long file reads (decoded file).ending file.place.at (decoded file).items (record { items_are = refl; ending_is = refl }) longer
+
 pub told_in_front : (file : TextFile) (front : Front) → reads_texts file.settings.handler ≡ true → file.place.front ≡ Some front → file.place.taken < len (front_left file front) → told file ≡ inside_cookie (effective_order file) (inside_front file front)
 told_in_front file front reads is less =
     let taken : ℕ = file.place.taken in
     let left : List ℕ = front_left file front in
-    let more : List ℕ = read_of file (characters_of (decoded file).items) in
     let here : Option Inside = Some (inside_front file front) in
     let behind : Option Inside = inside_decoded file (taken - len left) in
-    let longer : len more < len (text_rest file).characters = omega (arith, less, ap len (ap (left_behind file) is), length-drop taken (left ++ more), length-append left more) in
-    let none : find (gives_rest file) (boundaries file) ≡ None = none_long file reads (decoded file).ending file.place.at (decoded file).items (record { items_are = refl; ending_is = refl }) longer in
     told_is file (Some front) is
-    ∙ (ap (λ (found : Option ℕ). told_found file found (inside_of file (Some front))) none
+    ∙ (ap (λ (found : Option ℕ). told_found file found (inside_of file (Some front))) (none_in_front file front reads is less)
     ∙ ap (told_inside file) (cond-true (nat_lt taken (len left)) here behind (lt-ltb taken (len left) less)))
 
 -- the item that a front is

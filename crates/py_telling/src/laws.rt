@@ -1,10 +1,10 @@
-ghost use Rattle.std.specs.Prelude.{◌≡◌, ◌≤◌, ◌<◌, ℕ, Bool, true, List, length, Some};
+ghost use Rattle.std.specs.Prelude.{◌≡◌, ◌≤◌, ◌<◌, ℕ, Bool, true, List, length, find, Some, None};
 ghost use Rattle.py_plain.specs.Units.{Unknown};
 ghost use Rattle.py_plain.specs.Handlers.{reads_texts};
 ghost use Rattle.py_plain.specs.Items.{Item};
 ghost use Rattle.py_plain_text.specs.TextFile.{Front, TextFile};
 ghost use Rattle.py_plain_text.specs.CookieLaws.{IsFront};
-ghost use Rattle.py_plain_text.specs.Telling.{effective_order, placed, front_left, inside_front, inside_cookie, told};
+ghost use Rattle.py_plain_text.specs.Telling.{effective_order, placed, gives_rest, boundaries, front_left, inside_front, inside_cookie, told};
 ghost use Rattle.py_telling.specs.Spots.{spot_cookie};
 ghost use Rattle.py_telling.specs.Bases.{given_since, GoesOnFrom, behind_front, front_spot};
 
@@ -25,6 +25,8 @@ pub fn told_from_a_base()
 pub fn told_behind_a_front()
     ensures behind { (file : TextFile) (front : Front) → file.place.front ≡ Some front → length (front_left file front) ≤ file.place.taken
         → told file ≡ told (placed file (behind_front file front)) }
+    ensures none { (file : TextFile) (front : Front) → reads_texts file.settings.handler ≡ true → file.place.front ≡ Some front
+        → file.place.taken < length (front_left file front) → find (gives_rest file) (boundaries file) ≡ None }
     ensures inside { (file : TextFile) (front : Front) → reads_texts file.settings.handler ≡ true → file.place.front ≡ Some front
         → file.place.taken < length (front_left file front) → told file ≡ inside_cookie (effective_order file) (inside_front file front) }
     ensures spot { (file : TextFile) (front : Front) → reads_texts file.settings.handler ≡ true → file.place.order ≡ Unknown → IsFront file front
