@@ -1,7 +1,8 @@
 //! Where a text stands, told by the bytes that are in hand.
 //!
 //! `told_among` walks the bytes from a place on and says where a text stands of which so many characters were given since; `restores`
-//! says whether a cookie that skips characters fits the bytes that lie at its start. Both take no memory.
+//! says whether a cookie that skips characters fits the bytes that lie at its start. Both take no memory. What is told from a later byte
+//! is what is told from the text's own (`told_from_a_base`).
 #![tactic(auto)]
 
 mod laws;
