@@ -78,7 +78,7 @@ begins_by file reads place item items ending inside walks Unfinished is =
     let none : [] ≡ item ∷ items = sym (ap (λ (w : Walk). w.items) (walked.1 ∙ ap (λ (f : FirstItem). onto_walk file.place.order place f walked.0) is)) ∙ walks.items_are in
     absurd (cc)
 
-none_left : (encoding : Encoding) (treat : Treatment) (order : Order) (place : ℕ) (bytes : List ℕ) → len bytes ≡ 0 → (walk_from encoding treat true order place 0 bytes).items ≡ []
+pub none_left : (encoding : Encoding) (treat : Treatment) (order : Order) (place : ℕ) (bytes : List ℕ) → len bytes ≡ 0 → (walk_from encoding treat true order place 0 bytes).items ≡ []
 none_left encoding treat order place [] none = refl
 none_left encoding treat order place (byte ∷ rest) none = absurd (omega (arith, none))
 

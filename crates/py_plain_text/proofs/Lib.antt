@@ -3,6 +3,9 @@ pub mod TextSteps
 pub mod Cookies
 pub mod Building
 pub mod Unbroken
+pub mod Short
+pub mod PlainItems
+pub mod PlainAnswers
 pub mod Translated
 pub mod Inside
 pub mod Told

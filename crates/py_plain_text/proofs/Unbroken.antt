@@ -87,13 +87,13 @@ replaced_unbroken SurrogateEscape encoding place size rest characters used reads
 
 -- And how long it is.
 
-hex_long : (count value : ℕ) → len (hex_digits count value) ≡ count
+pub hex_long : (count value : ℕ) → len (hex_digits count value) ≡ count
 hex_long zero value = refl
 hex_long (suc count) value =
     let more : len (hex_digits count (value / 16)) ≡ count = hex_long count (value / 16) in
     length-append (hex_digits count (value / 16)) (hex_digit (value % 16) ∷ []) ∙ omega (arith, more)
 
-backslash_short : (value : ℕ) → len (backslash_escape value) ≤ 65
+pub backslash_short : (value : ℕ) → len (backslash_escape value) ≤ 65
 backslash_short value =
     either_way (λ (t : List ℕ). len t ≤ 65) (nat_lt value 0x100) (codes "\\x" ++ hex_digits 2 value) (if nat_lt value 0x10000 then codes "\\u" ++ hex_digits 4 value else codes "\\U" ++ hex_digits 8 value)
     (omega (arith, hex_long 2 value))
@@ -110,10 +110,10 @@ decimal_short : (n : ℕ) → len (decimal n) ≤ 64
 unfolding digits
 decimal_short n = let all : len (digits_onto 64 10 false n []) ≤ 64 + len {A = ℕ} [] = digits_short 64 n [] in omega (arith, all)
 
-surrogate_short : (byte : ℕ) → len (surrogate_escape byte) ≤ 65
+pub surrogate_short : (byte : ℕ) → len (surrogate_escape byte) ≤ 65
 surrogate_short byte = omega (arith, decimal_short (0xDC00 + byte))
 
-each_short : (spell : ℕ → List ℕ) → ((value : ℕ) → len (spell value) ≤ 65) → (values : List ℕ) → len (each_spelled spell values) ≤ 65 * len values
+pub each_short : (spell : ℕ → List ℕ) → ((value : ℕ) → len (spell value) ≤ 65) → (values : List ℕ) → len (each_spelled spell values) ≤ 65 * len values
 each_short spell short [] = omega arith
 each_short spell short (value ∷ values) = omega (arith, short value, each_short spell short values, length-append (spell value) (each_spelled spell values))
 
@@ -123,7 +123,7 @@ escaped_short (byte ∷ rest) characters used few is =
     let same : each_spelled surrogate_escape (byte ∷ rest) ≡ characters = cc in
     subst (λ (t : List ℕ). len t ≤ 260) same (omega (arith, few, each_short surrogate_escape surrogate_short (byte ∷ rest)))
 
-replaced_short : (handler : Handler) (encoding : Encoding) (place size : ℕ) (rest characters : List ℕ) (used : ℕ) → reads_texts handler ≡ true → size ≤ 4 → treatment handler encoding place rest size ≡ Replaced characters used → len characters ≤ 260
+pub replaced_short : (handler : Handler) (encoding : Encoding) (place size : ℕ) (rest characters : List ℕ) (used : ℕ) → reads_texts handler ≡ true → size ≤ 4 → treatment handler encoding place rest size ≡ Replaced characters used → len characters ≤ 260
 replaced_short Strict encoding place size rest characters used reads few is = absurd (cc)
 replaced_short Ignore encoding place size rest characters used reads few is = let same : [] ≡ characters = cc in subst (λ (t : List ℕ). len t ≤ 260) same (omega arith)
 replaced_short Replace encoding place size rest characters used reads few is = let same : 0xFFFD ∷ [] ≡ characters = cc in subst (λ (t : List ℕ). len t ≤ 260) same (omega arith)
@@ -138,7 +138,7 @@ replaced_short SurrogateEscape encoding place size rest characters used reads fe
 
 -- A unit has at most four bytes.
 
-abbrev IsSmall : Read → Type 0
+abbrev pub IsSmall : Read → Type 0
 IsSmall (Character c n) = n ≤ 4
 IsSmall (Malformed n) = n ≤ 4
 IsSmall (Cut n) = n ≤ 4
@@ -164,7 +164,7 @@ utf16_small big [] = tt
 utf16_small big (first ∷ []) = omega arith
 utf16_small big (first ∷ second ∷ rest) = two_small big (code_unit big first second) rest
 
-unit_small : (encoding : Encoding) (order : Order) (at_start : Bool) (bytes : List ℕ) → IfSome (first_unit encoding order at_start bytes) IsSmall
+pub unit_small : (encoding : Encoding) (order : Order) (at_start : Bool) (bytes : List ℕ) → IfSome (first_unit encoding order at_start bytes) IsSmall
 unit_small Utf8 order at_start [] = tt
 unit_small Utf8 order at_start (byte ∷ rest) = long_small (unit_after byte (lead byte) rest) (len (byte ∷ rest)) (unit_uses byte rest)
 unit_small Latin1 order at_start [] = tt

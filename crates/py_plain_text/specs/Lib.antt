@@ -14,4 +14,5 @@ pub mod TextOver
 pub mod CookieView
 pub mod TextExamples
 pub mod PlainSteps
+pub mod PlainCookies
 pub mod PlainView

@@ -4,6 +4,7 @@ use Rattle.py_flat.specs.declared.fault.IoFault.{IoFault}
 use Rattle.py_flat.specs.declared.fault.IoFault.TheVariants as fault
 use Rattle.py_flat.specs.declared.life.Life.TheVariants as life
 use Rattle.py_flat.specs.FlatFile.{Abilities}
+use Rattle.py_flat.specs.Limits.{greatest_place}
 use Rattle.py_flat.specs.Calls.{FileReply, Text, Count, Done, Refused}
 use Rattle.py_plain_text.specs.declared.plain_place.PlainSettings.{PlainSettings}
 use Rattle.py_plain_text.specs.declared.plain_place.PlainFront.{PlainFront}
@@ -83,11 +84,18 @@ abbrev pub LiesWithin : ℕ → Option PlainFront → Type 0
 LiesWithin size None = ⊤
 LiesWithin size (Some front) = front.start + front.length ≤ size
 
--- a place fits some bytes: its front lies within them, and no more characters are taken than there are; one that isn't dirty
--- stands at a byte
+-- a front has no more bytes than an item
+abbrev pub IsShort : Option PlainFront → Type 0
+IsShort None = ⊤
+IsShort (Some front) = front.length ≤ 4
+
+-- a place fits some bytes: its front lies within them and is no longer than an item, its byte is none that a stream can't stand at, and
+-- no more characters are taken than there are; one that isn't dirty stands at a byte
 pub record PlaceFits (bytes : List ℕ) (settings : PlainSettings) (place : PlainPlace) : Type 0 where
   pub clean : place.dirty ≡ false → (place.front ≡ None) × (place.taken ≡ 0)
   pub within : LiesWithin (length bytes) place.front
+  pub short : IsShort place.front
+  pub reach : place.at ≤ greatest_place
   pub taken : place.taken ≤ length (whole_rest bytes settings place).characters
 
 -- a live text at a place that fits the bytes, and none exactly where it doesn't

@@ -2,10 +2,13 @@ ghost use Rattle.std.specs.Prelude.{◌≡◌, ◌+◌, ◌^◌, ◌<◌, ◌≤
 ghost use Rattle.py_plain.specs.Units.{Unknown};
 ghost use Rattle.py_plain_text.specs.TextFile.{clean_at};
 ghost use Rattle.py_plain_text.specs.Rest.{front_characters};
-ghost use Rattle.py_plain_text.specs.PlainSteps.{settings_shown, front_shown, place_shown, rest_at, whole_rest, LiesWithin, PlaceFits};
+ghost use Rattle.py_plain_text.specs.PlainSteps.{settings_shown, front_shown, place_shown, rest_at, whole_rest, LiesWithin, IsShort, PlaceFits};
 
 use py_plain::{Decoded, Encoding, Handler, Newlines, decode, translate};
 use std::alloc::{AllocError, Global};
+
+/// The greatest place of a stream, a signed number of 64 bits.
+pub(crate) const GREATEST_PLACE: usize = 9_223_372_036_854_775_807;
 
 /// What a plain text is read and written by.
 #[derive(Clone, Copy, Debug, PartialEq, Eq)]
@@ -64,7 +67,7 @@ fn past(alloc: Global, characters: &[char], count: usize) -> Result<Vec<char>, A
 }
 
 /// The characters of a front past those skipped.
-fn front_characters(
+pub(crate) fn front_characters(
     alloc: Global,
     settings: PlainSettings,
     bytes: &[u8],
@@ -135,6 +138,17 @@ fn lies_within(size: usize, front: Option<PlainFront>) -> bool
     }
 }
 
+/// Whether a front has no more bytes than an item.
+fn is_short(front: Option<PlainFront>) -> bool
+    ensures is { result ≡ true → IsShort front }
+    ensures is_not { result ≡ false → IsShort front → ⊥ }
+{
+    match front {
+        None => true,
+        Some(front) => front.length <= 4,
+    }
+}
+
 /// Whether no more characters are taken at a place than there are.
 fn takes_what_is_there(
     alloc: Global,
@@ -151,8 +165,8 @@ fn takes_what_is_there(
     Ok(place.taken <= whole.characters.len())
 }
 
-/// Whether a place fits some bytes: its front lies within them, and no more characters are taken than there are; one that isn't
-/// dirty stands at a byte. The `Err` means out of memory.
+/// Whether a place fits some bytes: its front lies within them and has four bytes at most, its byte is no further than a stream can
+/// stand, and no more characters are taken than there are; one that isn't dirty stands at a byte. The `Err` means out of memory.
 pub(crate) fn fits(
     alloc: Global,
     settings: PlainSettings,
@@ -166,6 +180,9 @@ pub(crate) fn fits(
         return Ok(false);
     }
     if !lies_within(bytes.len(), place.front) {
+        return Ok(false);
+    }
+    if !is_short(place.front) || place.at > GREATEST_PLACE {
         return Ok(false);
     }
     takes_what_is_there(alloc, settings, bytes, place)

@@ -1,23 +1,22 @@
 ghost use Rattle.std.specs.Prelude.{◌≡◌, ◌+◌, ◌^◌, ◌<◌, ◌≤◌, false, length, take, IfOk, IfErr, OnOk};
 ghost use Rattle.py_plain_text.specs.PlainSteps.{plain_text, place_shown, changes_shown, IsTextAt, text_reply, done_reply, IsAccepted, IsUnread, IsAnswer, IsWritten, IsUnwritten, PlainStep, PlainAnswer, count_reply};
+ghost use Rattle.py_plain_text.specs.PlainCookies.{cookie_reply};
 ghost use Rattle.py_flat.specs.Bytes.{first_of};
 ghost use Rattle.py_plain_text.specs.Rest.{text_rest};
 ghost use Rattle.py_plain_text.specs.TextStep.{asks_past, asks_any, range_refusal, after_taking, at_the_end};
-ghost use Rattle.py_plain_text.specs.TextCalls.{Read, ReadLine, WriteText, Reconfigure, Close};
+ghost use Rattle.py_plain_text.specs.TextCalls.{Read, ReadLine, WriteText, Tell, Reconfigure, Close};
 ghost use Rattle.py_plain_text.specs.TextRefusals.{changes_refusal};
 ghost use Rattle.py_plain_text.specs.TextExact.{exact};
 
 use crate::plain_changes::fits_both;
-use crate::plain_place::{fits, left};
+use crate::plain_place::{GREATEST_PLACE, fits, left};
+use crate::plain_tell::told;
 use crate::plain_write::{laid, written};
-use crate::{PlainChanges, PlainPlace, PlainSettings};
+use crate::{PlainChanges, PlainPlace, PlainSettings, TextIOCookie};
 use py_flat::{Chars, IoFault, Life};
 use py_plain::{Decoded, encode, first_line};
 use std::alloc::{AllocError, Global};
 use std::marker::Model;
-
-/// The greatest place of a stream, a signed number of 64 bits.
-const GREATEST_PLACE: usize = 9_223_372_036_854_775_807;
 
 /// A text over a list of bytes, read by decoding all of them again at each call.
 ///
@@ -136,9 +135,9 @@ impl PlainText {
 
     /// A text of these bytes at a place, live, in an encoding, with a handler and a newline rule. It can be read and written.
     ///
-    /// `None` exactly where the place doesn't fit the bytes: its front doesn't lie within them, or more characters are taken than there
-    /// are, or it isn't dirty and has a front or characters that were taken. The `Err` means out of memory. A place whose byte lies past
-    /// the end of the bytes fits.
+    /// `None` exactly where the place doesn't fit the bytes: its front doesn't lie within them or has more than four bytes, which no item
+    /// has; or its byte is past 9223372036854775807, where no stream stands; or more characters are taken than there are; or it isn't dirty
+    /// and has a front or characters that were taken. The `Err` means out of memory. A place whose byte lies past the end of the bytes fits.
     pub fn placed(
         alloc: Global,
         bytes: Vec<u8>,
@@ -285,6 +284,23 @@ impl PlainText {
         self.bytes = laid;
         self.place.at += bytes.len();
         Ok(text.len())
+    }
+
+    /// Tells the place of the text as a cookie, by which `seek` puts it back; the text stays as it is.
+    ///
+    /// It is the cookie of the first boundary between items, from the byte on where the text was put last, from which the same is left, in
+    /// bytes from the start of the text; where there is none, of the item inside which the text stands, with the characters that were taken of
+    /// it. `Closed` where the text is closed, `NoMemory` where there is none.
+    pub fn tell(&self, alloc: Global) -> Result<TextIOCookie, IoFault>
+        ensures { PlainAnswer self.now Tell (cookie_reply result) self.now }
+    {
+        if self.closed {
+            return Err(IoFault::Closed);
+        }
+        match told(alloc, self.settings, &self.bytes, &self.place) {
+            Ok(cookie) => Ok(cookie),
+            Err(_) => Err(IoFault::NoMemory),
+        }
     }
 
     /// What refuses new settings: that the text was read from, where they say how it is read; then the handler.
