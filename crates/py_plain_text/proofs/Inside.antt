@@ -173,7 +173,7 @@ left_inside file start size count item stands less left =
     let refusal = ap (λ (o : Order). refusal_of (plain enc treat o file.bytes (start + size)).ending) order ∙ left.refusal in
     rest_is (text_rest file) _ _ characters refusal
 
-landed : (file : TextFile) (cookie : Cookie) → skips cookie ≡ true → is_restorable file cookie ≡ true → lands file cookie ≡ Stands (place_inside cookie)
+pub landed : (file : TextFile) (cookie : Cookie) → skips cookie ≡ true → is_restorable file cookie ≡ true → lands file cookie ≡ Stands (place_inside cookie)
 landed file cookie skipped restored =
     ap (λ (b : Bool). if not b then Stands (start_place cookie) else if is_restorable file cookie then Stands (place_inside cookie) else CantRestore (start_place cookie)) skipped
     ∙ ap (λ (b : Bool). if b then Stands (place_inside cookie) else CantRestore (start_place cookie)) restored

@@ -5,6 +5,8 @@ pub mod Building
 pub mod Unbroken
 pub mod Short
 pub mod PlainItems
+pub mod PlainLanding
+pub mod PlainRefusals
 pub mod PlainAnswers
 pub mod Translated
 pub mod Inside

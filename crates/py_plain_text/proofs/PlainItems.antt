@@ -17,7 +17,7 @@ use Rattle.py_plain_text.proofs.Inside.{onto_some, none_left}
 use Rattle.py_plain_text.proofs.Short.{IsFew, item_few, walk_few}
 
 -- an item that is given has the characters that came
-gives_given : (item : FirstItem) (used : ℕ) (before after : List ℕ) → Gives item before after (seen.Given used) → (characters : List ℕ) × (item ≡ Given characters used) × (after ≡ before ++ characters)
+pub gives_given : (item : FirstItem) (used : ℕ) (before after : List ℕ) → Gives item before after (seen.Given used) → (characters : List ℕ) × (item ≡ Given characters used) × (after ≡ before ++ characters)
 gives_given (Given characters count) used before after gives = (characters, cc, gives.0)
 gives_given (RefusedRange size) used before after gives = absurd (cc)
 gives_given Unfinished used before after gives = absurd (cc)
@@ -28,7 +28,7 @@ first_at settings bytes place = first_item settings.encoding (treatment settings
 
 given_at : (settings : PlainSettings) (bytes : List ℕ) (place used : ℕ) (before after characters : List ℕ) → place < len bytes → (1 ≤ used) × (used ≤ len (drop place bytes)) → first_at settings bytes place ≡ Given characters used → StandsAt settings bytes place characters used
 given_at settings bytes place used before after characters inside some is =
-    let few : IsFew characters used = item_few settings.handler settings.encoding Unknown place (drop place bytes) characters used is in
+    let few : IsFew characters used = item_few settings.handler settings.encoding true Unknown place (drop place bytes) characters used is in
     record {
       some = some.0;
       few = few.bytes;

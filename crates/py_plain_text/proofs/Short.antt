@@ -11,7 +11,7 @@ use Rattle.py_plain.specs.Units.{Order, first_unit}
 use Rattle.py_plain.specs.Escapes.{surrogate_pass}
 use Rattle.py_plain.specs.Handlers.{Treatment, Replaced, Refuses, treatment, escaped, front_past_ascii, passed, number_length, spelled_number, is_surrogate}
 use Rattle.py_plain.specs.Items.{Walk, FirstItem, Given, RefusedRange, Unfinished, item_of, first_item, used_behind, onto_walk, walk_from, characters_of}
-use Rattle.py_plain.proofs.Items.{handled_given}
+use Rattle.py_plain.proofs.Items.{handled_given, cut_given}
 use Rattle.py_plain.proofs.Looking.{front_within}
 use Rattle.py_plain_text.proofs.Unbroken.{IsSmall, hex_long, replaced_short, unit_small}
 
@@ -60,25 +60,25 @@ replaced_few SurrogateEscape encoding place size rest characters used few is = r
   characters = replaced_short SurrogateEscape encoding place size rest characters used refl few is;
 }
 
-unit_few : (handler : Handler) (encoding : Encoding) (place : ℕ) (rest characters : List ℕ) (used : ℕ) (unit : Option Read) → IfSome unit IsSmall → item_of (treatment handler encoding) true place rest unit ≡ Given characters used → IsFew characters used
-unit_few handler encoding place rest characters used None small is = absurd (cc)
-unit_few handler encoding place rest characters used (Some (Character c n)) small is =
+unit_few : (handler : Handler) (encoding : Encoding) (last : Bool) (place : ℕ) (rest characters : List ℕ) (used : ℕ) (unit : Option Read) → IfSome unit IsSmall → item_of (treatment handler encoding) last place rest unit ≡ Given characters used → IsFew characters used
+unit_few handler encoding last place rest characters used None small is = absurd (cc)
+unit_few handler encoding last place rest characters used (Some (Character c n)) small is =
     let same : n ≡ used = cc in
     let alone : c ∷ [] ≡ characters = cc in
     record { bytes = omega (arith, same, small); characters = subst (λ (t : List ℕ). len t ≤ 260) alone (omega arith) }
-unit_few handler encoding place rest characters used (Some (Malformed n)) small is =
+unit_few handler encoding last place rest characters used (Some (Malformed n)) small is =
     replaced_few handler encoding place n rest characters used small (handled_given n (treatment handler encoding place rest n) characters used is)
-unit_few handler encoding place rest characters used (Some (Cut n)) small is =
-    replaced_few handler encoding place n rest characters used small (handled_given n (treatment handler encoding place rest n) characters used is)
+unit_few handler encoding last place rest characters used (Some (Cut n)) small is =
+    replaced_few handler encoding place n rest characters used small (cut_given last n (treatment handler encoding place rest n) characters used is)
 
 -- what stands first of some bytes
-pub item_few : (handler : Handler) (encoding : Encoding) (order : Order) (place : ℕ) (rest characters : List ℕ) (used : ℕ) → first_item encoding (treatment handler encoding) true order place rest ≡ Given characters used → IsFew characters used
-item_few handler encoding order place rest characters used is =
-    unit_few handler encoding place rest characters used (first_unit encoding order (nat_eq place 0) rest) (unit_small encoding order (nat_eq place 0) rest) is
+pub item_few : (handler : Handler) (encoding : Encoding) (last : Bool) (order : Order) (place : ℕ) (rest characters : List ℕ) (used : ℕ) → first_item encoding (treatment handler encoding) last order place rest ≡ Given characters used → IsFew characters used
+item_few handler encoding last order place rest characters used is =
+    unit_few handler encoding last place rest characters used (first_unit encoding order (nat_eq place 0) rest) (unit_small encoding order (nat_eq place 0) rest) is
 
 onto_few : (handler : Handler) (encoding : Encoding) (order : Order) (place : ℕ) (bytes : List ℕ) (count : ℕ) (first : FirstItem) → first_item encoding (treatment handler encoding) true order place bytes ≡ first → (walk : Walk) → len (characters_of walk.items) ≤ 260 * count → len (characters_of (onto_walk order place first walk).items) ≤ 260 * suc count
 onto_few handler encoding order place bytes count (Given characters used) is walk few =
-    omega (arith, few, (item_few handler encoding order place bytes characters used is).characters, length-append characters (characters_of walk.items))
+    omega (arith, few, (item_few handler encoding true order place bytes characters used is).characters, length-append characters (characters_of walk.items))
 onto_few handler encoding order place bytes count (RefusedRange size) is walk few = omega arith
 onto_few handler encoding order place bytes count Unfinished is walk few = omega arith
 

@@ -1,17 +1,23 @@
 -- The items and the cookies of the plain text, and how it answers with a cookie.
-use Rattle.std.specs.Prelude.{◌≡◌, ℕ, ◌+◌, ◌≤◌, List, [], ◌∷◌, ◌++◌, length, Option, Some, None, Result, Ok, Err}
+use Rattle.std.specs.Prelude.{◌≡◌, ℕ, ◌+◌, ◌≤◌, ℤ, pos, Bool, true, false, ◌&&◌, not, if◌then◌else◌, List, [], ◌∷◌, ◌++◌, length, Option, Some, None, Result, Ok, Err}
 use Rattle.py_flat.specs.declared.fault.IoFault.{IoFault}
+use Rattle.py_flat.specs.declared.fault.IoFault.TheVariants as fault
 use Rattle.py_flat.specs.Calls.{FileReply, Cookie, Refused}
+use Rattle.py_flat.specs.Limits.{greatest_place}
+use Rattle.py_flat.specs.Refusals.{or_else, refused_if}
 use Rattle.py_plain.specs.Units.{Unknown}
 use Rattle.py_plain.specs.Handlers.{treatment}
 use Rattle.py_plain.specs.Items.{Item, plain}
 use Rattle.py_plain_text.specs.declared.plain_place.PlainSettings.{PlainSettings}
 use Rattle.py_plain_text.specs.declared.plain_place.PlainPlace.{PlainPlace}
 use Rattle.py_plain_text.specs.declared.text_cookie.TextIOCookie.{TextIOCookie}
-use Rattle.py_plain_text.specs.TextFile.{TextFile}
-use Rattle.py_plain_text.specs.Cookie.{cookie_bytes}
+use Rattle.py_plain_text.specs.TextFile.{TextPlace, TextFile}
+use Rattle.py_plain_text.specs.Cookie.{cookie_bytes, is_natural}
 use Rattle.py_plain_text.specs.CookieView.{cookie_shown}
-use Rattle.py_plain_text.specs.PlainSteps.{plain_at, place_shown}
+use Rattle.py_plain_text.specs.Landing.{Landed, Stands, CantRestore}
+use Rattle.py_plain_text.specs.TextCalls.{SeekText}
+use Rattle.py_plain_text.specs.TextRefusals.{counts_on, are_zeros, argument_refusal}
+use Rattle.py_plain_text.specs.PlainSteps.{plain_at, place_shown, LiesWithin, IsShort}
 
 -- what a call that answers a cookie answered
 abbrev pub cookie_reply : Result TextIOCookie IoFault → FileReply
@@ -38,3 +44,27 @@ pub record StandsAt (settings : PlainSettings) (bytes : List ℕ) (place : ℕ) 
 abbrev pub PassesItem : PlainSettings → List ℕ → ℕ → (before after : List ℕ) → Option ℕ → Type 0
 PassesItem settings bytes place before after None = items_from settings bytes place ≡ []
 PassesItem settings bytes place before after (Some used) = (characters : List ℕ) × (after ≡ before ++ characters) × StandsAt settings bytes place characters used
+
+-- Seeking.
+
+-- what refuses a seek of a live text
+abbrev pub sought_refusal : TextFile → List ℕ → ℤ → Option IoFault
+sought_refusal file cookie whence =
+    or_else (refused_if (counts_on whence && not (are_zeros cookie)) fault.Unsupported) (argument_refusal file (SeekText cookie whence))
+
+-- a cookie that a text can land by: its start isn't negative, and it says no order
+pub record IsSound (cookie : TextIOCookie) : Type 0 where
+  pub natural : is_natural cookie.start_pos ≡ true
+  pub flags : cookie.dec_flags ≡ pos 0
+
+-- where the program's text lands: as the cookie says, or at the cookie's start
+abbrev pub landed_by : (restored : Bool) → TextPlace → Landed
+landed_by restored place = if restored then Stands place else CantRestore place
+
+-- a place of a text of so many bytes that landed
+pub record IsLanding (size : ℕ) (place : PlainPlace) : Type 0 where
+  pub clean : place.dirty ≡ false → place.front ≡ None
+  pub within : LiesWithin size place.front
+  pub short : IsShort place.front
+  pub reach : place.at ≤ greatest_place
+  pub untaken : place.taken ≡ 0

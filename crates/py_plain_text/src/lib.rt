@@ -9,6 +9,7 @@ mod examples;
 mod laws;
 mod plain_changes;
 mod plain_place;
+mod plain_seek;
 mod plain_tell;
 mod plain_text;
 mod plain_write;

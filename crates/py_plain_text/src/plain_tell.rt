@@ -108,7 +108,7 @@ fn boundary(
 }
 
 /// How many bytes of UTF-8 some characters take.
-fn utf8_length(characters: &[char]) -> usize
+pub(crate) fn utf8_length(characters: &[char]) -> usize
     requires { length characters.now ≤ 1040 }
     ensures length { result ≡ length (encode_utf8_all characters.now) }
     ensures few { result ≤ 4160 }

@@ -1,15 +1,18 @@
 ghost use Rattle.std.specs.Prelude.{◌≡◌, ◌+◌, ◌^◌, ◌<◌, ◌≤◌, false, length, take, IfOk, IfErr, OnOk};
 ghost use Rattle.py_plain_text.specs.PlainSteps.{plain_text, place_shown, changes_shown, IsTextAt, text_reply, done_reply, IsAccepted, IsUnread, IsAnswer, IsWritten, IsUnwritten, PlainStep, PlainAnswer, count_reply};
-ghost use Rattle.py_plain_text.specs.PlainCookies.{cookie_reply};
+ghost use Rattle.py_plain_text.specs.PlainCookies.{cookie_reply, landed_by, IsLanding};
+ghost use Rattle.py_plain_text.specs.CookieView.{cookie_shown};
+ghost use Rattle.py_plain_text.specs.Landing.{lands};
 ghost use Rattle.py_flat.specs.Bytes.{first_of};
 ghost use Rattle.py_plain_text.specs.Rest.{text_rest};
 ghost use Rattle.py_plain_text.specs.TextStep.{asks_past, asks_any, range_refusal, after_taking, at_the_end};
-ghost use Rattle.py_plain_text.specs.TextCalls.{Read, ReadLine, WriteText, Tell, Reconfigure, Close};
+ghost use Rattle.py_plain_text.specs.TextCalls.{Read, ReadLine, WriteText, SeekText, Tell, Reconfigure, Close};
 ghost use Rattle.py_plain_text.specs.TextRefusals.{changes_refusal};
-ghost use Rattle.py_plain_text.specs.TextExact.{exact};
+ghost use Rattle.py_plain_text.specs.TextExact.{text_sought, exact};
 
 use crate::plain_changes::fits_both;
 use crate::plain_place::{GREATEST_PLACE, fits, left};
+use crate::plain_seek::{PlainLanding, lands, seek_fault, sought};
 use crate::plain_tell::told;
 use crate::plain_write::{laid, written};
 use crate::{PlainChanges, PlainPlace, PlainSettings, TextIOCookie};
@@ -301,6 +304,60 @@ impl PlainText {
             Ok(cookie) => Ok(cookie),
             Err(_) => Err(IoFault::NoMemory),
         }
+    }
+
+    /// Puts the text where it landed, and answers the cookie that it was sought by.
+    fn put(&mut self, sought: TextIOCookie, landing: PlainLanding) -> Result<TextIOCookie, IoFault>
+        requires fits { IsLanding (length self.old.bytes) landing.place }
+        requires lands { lands self.old (cookie_shown sought) ≡ landed_by landing.restored (place_shown landing.place) }
+        ensures { (cookie_reply result, self.new) ≡ text_sought self.old (cookie_shown sought) }
+    {
+        self.place = landing.place;
+        if landing.restored {
+            Ok(sought)
+        } else {
+            Err(IoFault::CannotRestore)
+        }
+    }
+
+    /// Seeks to a cookie as its bytes, zeros after them: `whence` is 0. From 1, the text's own place, and from 2, the end of its bytes, the
+    /// cookie has to be zeros. It answers the cookie of where the text was put, in bytes from the start of the text.
+    ///
+    /// A cookie that skips no characters puts the text clean at its start, which may lie past the end. One that skips puts it inside the one
+    /// item that the bytes fed are by themselves, behind the characters skipped; the text has to be sought again before it is written.
+    ///
+    /// `Closed` where the text is closed; `Unsupported` from 1 and 2 where the cookie isn't zeros; `BadWhence` for another number;
+    /// `InvalidCookie` for more than 25 bytes, a negative field, or an order; `NoMemory` where there is none: the text is then as it was.
+    /// `CannotRestore` where the bytes fed aren't one item with more characters than are skipped, or those take other bytes of UTF-8 than the
+    /// cookie says: the text then stands clean at the cookie's start.
+    pub fn seek(
+        &mut self,
+        alloc: Global,
+        cookie: &[u8],
+        whence: i64,
+    ) -> Result<TextIOCookie, IoFault>
+        ensures { PlainStep self.old (SeekText cookie.now whence) (cookie_reply result) self.new }
+    {
+        if self.closed {
+            return Err(IoFault::Closed);
+        }
+        if let Some(fault) = seek_fault(&self.bytes, cookie, whence) {
+            return Err(fault);
+        }
+        let Ok(sought) = sought(
+            alloc,
+            self.settings,
+            &self.bytes,
+            &self.place,
+            cookie,
+            whence,
+        ) else {
+            return Err(IoFault::NoMemory);
+        };
+        let Ok(landing) = lands(alloc, self.settings, &self.bytes, &sought) else {
+            return Err(IoFault::NoMemory);
+        };
+        self.put(sought, landing)
     }
 
     /// What refuses new settings: that the text was read from, where they say how it is read; then the handler.

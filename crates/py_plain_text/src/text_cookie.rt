@@ -58,7 +58,7 @@ fn start_in(bytes: &[u8]) -> i64
 }
 
 /// The cookie that some bytes are; a byte past their end counts as 0.
-fn cookie_of(bytes: &[u8]) -> TextIOCookie
+pub(crate) fn cookie_of(bytes: &[u8]) -> TextIOCookie
     ensures { cookie_shown result ≡ cookie_of bytes.now }
 {
     TextIOCookie {
@@ -72,7 +72,7 @@ fn cookie_of(bytes: &[u8]) -> TextIOCookie
 }
 
 /// Whether no field of a cookie is negative.
-fn is_buildable(cookie: &TextIOCookie) -> bool
+pub(crate) fn is_buildable(cookie: &TextIOCookie) -> bool
     ensures { result ≡ is_buildable (cookie_shown cookie.now) }
 {
     cookie.start_pos >= 0
