@@ -8,7 +8,7 @@ ghost use Rattle.py_plain.specs.Items.{walk_from};
 ghost use Rattle.py_plain_text.specs.Cookie.{parsed};
 ghost use Rattle.py_plain_text.specs.CookieView.{cookie_shown};
 ghost use Rattle.py_plain_text.specs.Landing.{start_of, fed_by, is_valid_cookie, only_item, is_restorable, lands};
-ghost use Rattle.py_plain_text.specs.TextRefusals.{counts_on, are_zeros, whence_refusal, argument_refusal};
+ghost use Rattle.py_plain_text.specs.TextRefusals.{counts_on, are_zeros, argument_refusal};
 ghost use Rattle.py_plain_text.specs.TextCalls.{SeekText};
 ghost use Rattle.py_plain_text.specs.TextExact.{sought_cookie};
 ghost use Rattle.py_plain_text.specs.declared.plain_place.PlainSettings.{PlainSettings};
@@ -23,30 +23,6 @@ use py_flat::IoFault;
 use py_plain::{FirstItem, first_item};
 use std::alloc::{AllocError, Global};
 
-/// Whether a seek counts from the place or from the end.
-fn counts_on(whence: i64) -> bool
-    ensures { result ≡ counts_on whence }
-{
-    matches!(whence, 1 | 2)
-}
-
-/// What refuses a whence that isn't known.
-fn whence_fault(whence: i64) -> Option<IoFault>
-    ensures { result ≡ whence_refusal whence }
-{
-    match whence {
-        0..=2 => None,
-        _ => Some(IoFault::BadWhence),
-    }
-}
-
-/// Whether some bytes are all zero.
-fn are_zeros(bytes: &[u8]) -> bool
-    ensures { result ≡ are_zeros bytes.now }
-{
-    bytes.iter().all(|byte| *byte == 0)
-}
-
 /// What refuses a cookie: that it has more than 25 bytes, a negative field, or an order, which no encoding keeps.
 fn cookie_fault(cookie: &[u8]) -> Option<IoFault>
     ensures { (encoding : Encoding) → result ≡ refused_if (not (is_valid_cookie encoding (parsed cookie.now))) fault.InvalidCookie }
@@ -57,11 +33,18 @@ fn cookie_fault(cookie: &[u8]) -> Option<IoFault>
     }
 }
 
+/// Whether some bytes are all zero.
+fn are_zeros(bytes: &[u8]) -> bool
+    ensures { result ≡ are_zeros bytes.now }
+{
+    bytes.iter().all(|byte| *byte == 0)
+}
+
 /// Whether a seek that counts from the place or from the end has a cookie that isn't zeros.
 fn counts_by_cookie(cookie: &[u8], whence: i64) -> bool
     ensures { result ≡ (counts_on whence && not (are_zeros cookie.now)) }
 {
-    counts_on(whence) && !are_zeros(cookie)
+    matches!(whence, 1 | 2) && !are_zeros(cookie)
 }
 
 /// What is wrong with the arguments of a seek. An end past the greatest place needs no test, since no list of bytes is so long.
@@ -69,11 +52,10 @@ fn argument_fault(bytes: &[u8], cookie: &[u8], whence: i64) -> Option<IoFault>
     ensures { (settings : PlainSettings) (place : PlainPlace) → result
         ≡ argument_refusal (text_at bytes.now settings place) (SeekText cookie.now whence) }
 {
-    let fault = whence_fault(whence);
-    if fault.is_some() {
-        return fault;
+    match whence {
+        0..=2 => cookie_fault(cookie),
+        _ => Some(IoFault::BadWhence),
     }
-    cookie_fault(cookie)
 }
 
 /// What refuses a seek of a live text.
@@ -129,14 +111,8 @@ fn only_item(
     ensures few { IfOk result (λ characters. IfSome characters (λ v. length v.items ≤ 1040)) }
 {
     let mut characters = Vec::new(alloc);
-    match first_item(
-        alloc,
-        &mut characters,
-        settings.encoding,
-        settings.handler,
-        bytes,
-        last,
-    )? {
+    let (encoding, handler) = (settings.encoding, settings.handler);
+    match first_item(alloc, &mut characters, encoding, handler, bytes, last)? {
         FirstItem::Given { used } => {
             if used == bytes.len() {
                 Ok(Some(characters))
@@ -182,54 +158,37 @@ fn is_restorable(
     }
 }
 
-/// Where a text lands.
-#[derive(Clone, Copy, Debug)]
-pub(crate) struct PlainLanding {
-    /// Where it stands.
-    pub place: PlainPlace,
-    /// Whether it stands there as its cookie says.
-    pub restored: bool,
-}
-
-/// Where a cookie puts a text: as it says, or clean at its start, where its skipped characters aren't those of one item there. The
-/// `Err` means out of memory.
+/// Where a cookie puts a text, and whether that is as it says: else it is clean at its start, where its skipped characters aren't those
+/// of one item there. The `Err` means out of memory.
 pub(crate) fn lands(
     alloc: Global,
     settings: PlainSettings,
     bytes: &[u8],
     cookie: &TextIOCookie,
-) -> Result<PlainLanding, AllocError>
+) -> Result<(PlainPlace, bool), AllocError>
     requires { IsSound cookie.now }
     ensures lands { IfOk result (λ landing. (place : PlainPlace) → lands (text_at bytes.now settings place) (cookie_shown cookie.now)
-        ≡ landed_by landing.restored (place_shown landing.place)) }
-    ensures fits { IfOk result (λ landing. IsLanding (length bytes.now) landing.place) }
+        ≡ landed_by landing.1 (place_shown landing.0)) }
+    ensures fits { IfOk result (λ landing. IsLanding (length bytes.now) landing.0) }
 {
     let start = cookie.start_pos.unsigned_abs() as usize;
     let skipped = cookie.chars_to_skip.unsigned_abs() as usize;
     if skipped == 0 {
-        return Ok(PlainLanding {
-            place: PlainPlace::clean_at(start),
-            restored: true,
-        });
+        return Ok((PlainPlace::clean_at(start), true));
     }
     if !is_restorable(alloc, settings, bytes, cookie)? {
-        return Ok(PlainLanding {
-            place: PlainPlace::clean_at(start),
-            restored: false,
-        });
+        return Ok((PlainPlace::clean_at(start), false));
     }
     let length = cookie.bytes_to_feed.unsigned_abs() as usize;
-    Ok(PlainLanding {
-        place: PlainPlace {
-            front: Some(PlainFront {
-                start,
-                length,
-                skipped,
-            }),
-            at: start + length,
-            taken: 0,
-            dirty: true,
-        },
-        restored: true,
-    })
+    let place = PlainPlace {
+        front: Some(PlainFront {
+            start,
+            length,
+            skipped,
+        }),
+        at: start + length,
+        taken: 0,
+        dirty: true,
+    };
+    Ok((place, true))
 }

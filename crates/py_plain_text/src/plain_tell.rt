@@ -1,7 +1,6 @@
 ghost use Rattle.std.specs.Prelude.{◌≡◌, ◌<◌, ◌≤◌, true, [], ◌∷◌, length, take, map, find, option_map, encode_utf8_all, IfOk, IfSome};
 ghost use Rattle.py_flat.specs.Limits.{greatest_place};
 ghost use Rattle.py_plain.specs.Units.{Unknown};
-ghost use Rattle.py_plain.specs.NewlineRule.{translated};
 ghost use Rattle.py_plain_text.specs.Cookie.{boundary_cookie};
 ghost use Rattle.py_plain_text.specs.CookieView.{cookie_shown};
 ghost use Rattle.py_plain_text.specs.Telling.{same_range, gives_rest, end_of_item, boundaries, inside_items, inside_of, inside_cookie, told};
@@ -10,7 +9,7 @@ ghost use Rattle.py_plain_text.specs.PlainCookies.{text_at, items_from, PassesIt
 
 use crate::plain_place::{front_characters, left};
 use crate::{PlainFront, PlainPlace, PlainSettings, TextIOCookie};
-use py_plain::{Decoded, FirstItem, Newlines, first_item, translate};
+use py_plain::{Decoded, FirstItem, first_item, translate};
 use std::alloc::{AllocError, Global};
 
 /// Appends the characters of the item at a place before the end of the bytes, and answers how many bytes it has; `None` where no
@@ -25,14 +24,8 @@ fn next_item(
     requires { place < length bytes.now }
     ensures { IfOk result (PassesItem settings bytes.now place out.old.items out.new.items) }
 {
-    match first_item(
-        alloc,
-        out,
-        settings.encoding,
-        settings.handler,
-        &bytes[place..],
-        true,
-    )? {
+    let (encoding, handler) = (settings.encoding, settings.handler);
+    match first_item(alloc, out, encoding, handler, &bytes[place..], true)? {
         FirstItem::Given { used } => Ok(Some(used)),
         FirstItem::RefusedRange { .. } | FirstItem::Unfinished => Ok(None),
     }
@@ -58,19 +51,13 @@ fn gives_rest(
     bytes: &[u8],
     place: &PlainPlace,
     rest: &Decoded,
-    boundary: usize,
+    at: usize,
 ) -> Result<bool, AllocError>
     requires characters { rest.now.characters.items ≡ (rest_at true bytes.now settings place.now).characters }
     requires refusal { rest.now.refusal ≡ (rest_at true bytes.now settings place.now).refusal }
-    ensures { IfOk result (λ b. b ≡ gives_rest (text_at bytes.now settings place.now) boundary) }
+    ensures { IfOk result (λ b. b ≡ gives_rest (text_at bytes.now settings place.now) at) }
 {
-    let here = left(
-        alloc,
-        settings,
-        bytes,
-        &PlainPlace::clean_at(boundary),
-        true,
-    )?;
+    let here = left(alloc, settings, bytes, &PlainPlace::clean_at(at), true)?;
     Ok(here.characters == rest.characters && is_same_range(here.refusal, rest.refusal))
 }
 
@@ -100,11 +87,7 @@ fn boundary(
             None => return Ok(None),
         }
     }
-    if gives_rest(alloc, settings, bytes, place, rest, at)? {
-        Ok(Some(at))
-    } else {
-        Ok(None)
-    }
+    Ok(gives_rest(alloc, settings, bytes, place, rest, at)?.then_some(at))
 }
 
 /// How many bytes of UTF-8 some characters take.
@@ -139,13 +122,6 @@ fn cookie_inside(start: usize, size: usize, characters: &[char], count: usize) -
     }
 }
 
-/// How many characters are read of some by the newline rule.
-fn read_length(alloc: Global, rule: Newlines, characters: &[char]) -> Result<usize, AllocError>
-    ensures { IfOk result (λ n. n ≡ length (translated rule characters.now)) }
-{
-    Ok(translate(alloc, rule, characters, true)?.len())
-}
-
 /// The cookie of the item behind a byte in which the character after n others stands; `None` where it stands in none.
 fn inside_behind(
     alloc: Global,
@@ -162,11 +138,11 @@ fn inside_behind(
     let mut at = from;
     while at < bytes.len() {
         let known = passed.len();
-        let read = read_length(alloc, settings.newline, &passed)?;
+        let read = translate(alloc, settings.newline, &passed, true)?.len();
         let Some(used) = next_item(alloc, settings, bytes, at, &mut passed)? else {
             return Ok(None);
         };
-        if count < read_length(alloc, settings.newline, &passed)? {
+        if count < translate(alloc, settings.newline, &passed, true)?.len() {
             return Ok(Some(cookie_inside(at, used, &passed[known..], count.saturating_sub(read))));
         }
         at += used;
@@ -189,23 +165,13 @@ fn inside(
     let Some(front) = place.front else {
         return inside_behind(alloc, settings, bytes, place.at, place.taken);
     };
-    let whole = front_characters(
-        alloc,
-        settings,
-        bytes,
-        Some(PlainFront {
-            skipped: 0,
-            ..front
-        }),
-    )?;
+    let mut unskipped = front;
+    unskipped.skipped = 0;
+    let whole = front_characters(alloc, settings, bytes, Some(unskipped))?;
     let left = whole.len().saturating_sub(front.skipped);
     if place.taken < left {
-        return Ok(Some(cookie_inside(
-            front.start,
-            front.length,
-            &whole,
-            front.skipped + place.taken,
-        )));
+        let taken = front.skipped + place.taken;
+        return Ok(Some(cookie_inside(front.start, front.length, &whole, taken)));
     }
     inside_behind(alloc, settings, bytes, place.at, place.taken - left)
 }
@@ -217,11 +183,7 @@ pub(crate) fn cookie_at(boundary: usize) -> TextIOCookie
 {
     TextIOCookie {
         start_pos: boundary as i64,
-        dec_flags: 0,
-        bytes_to_feed: 0,
-        chars_to_skip: 0,
-        need_eof: false,
-        bytes_to_skip: 0,
+        ..TextIOCookie::default()
     }
 }
 
@@ -240,8 +202,5 @@ pub(crate) fn told(
     if let Some(boundary) = boundary(alloc, settings, bytes, place, &rest)? {
         return Ok(cookie_at(boundary));
     }
-    match inside(alloc, settings, bytes, place)? {
-        Some(cookie) => Ok(cookie),
-        None => Ok(cookie_at(place.at)),
-    }
+    Ok(inside(alloc, settings, bytes, place)?.unwrap_or(cookie_at(place.at)))
 }

@@ -12,7 +12,7 @@ ghost use Rattle.py_plain_text.specs.TextExact.{text_sought, exact};
 
 use crate::plain_changes::fits_both;
 use crate::plain_place::{GREATEST_PLACE, fits, left};
-use crate::plain_seek::{PlainLanding, lands, seek_fault, sought};
+use crate::plain_seek::{lands, seek_fault, sought};
 use crate::plain_tell::told;
 use crate::plain_write::{laid, written};
 use crate::{PlainChanges, PlainPlace, PlainSettings, TextIOCookie};
@@ -307,13 +307,17 @@ impl PlainText {
     }
 
     /// Puts the text where it landed, and answers the cookie that it was sought by.
-    fn put(&mut self, sought: TextIOCookie, landing: PlainLanding) -> Result<TextIOCookie, IoFault>
-        requires fits { IsLanding (length self.old.bytes) landing.place }
-        requires lands { lands self.old (cookie_shown sought) ≡ landed_by landing.restored (place_shown landing.place) }
+    fn put(
+        &mut self,
+        sought: TextIOCookie,
+        landing: (PlainPlace, bool),
+    ) -> Result<TextIOCookie, IoFault>
+        requires fits { IsLanding (length self.old.bytes) landing.0 }
+        requires lands { lands self.old (cookie_shown sought) ≡ landed_by landing.1 (place_shown landing.0) }
         ensures { (cookie_reply result, self.new) ≡ text_sought self.old (cookie_shown sought) }
     {
-        self.place = landing.place;
-        if landing.restored {
+        self.place = landing.0;
+        if landing.1 {
             Ok(sought)
         } else {
             Err(IoFault::CannotRestore)

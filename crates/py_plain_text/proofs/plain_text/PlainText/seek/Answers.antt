@@ -39,7 +39,7 @@ pub put-requires-clause-lands : goal.put-requires-clause-lands
 put-requires-clause-lands c =
     let sought : Cookie = cookie_shown c.in-Ok.sought in
     let here = lands_as c.self.inside c.deref-3.result.now sought c.deref-3.ensures.value ∙ c.in-Ok-lands.ensures.lands c.self.inside.place in
-    subst (λ (f : TextFile). lands f sought ≡ landed_by c.in-Ok-lands.landing.restored (place_shown c.in-Ok-lands.landing.place)) c.self.view_is here
+    subst (λ (f : TextFile). lands f sought ≡ landed_by c.in-Ok-lands.landing.1 (place_shown c.in-Ok-lands.landing.0)) c.self.view_is here
 
 pub returns : goal.returns
 returns c =
