@@ -1,9 +1,13 @@
-mod Answering
-mod Decoded
-mod Few
-mod Holding
-mod Knowing
-mod Lines
-mod Parts
-mod Reading
-mod Walking
+pub mod Answering
+pub mod Decoded
+pub mod Few
+pub mod Holding
+pub mod Knowing
+pub mod Lines
+pub mod Parts
+pub mod Reading
+pub mod Walking
+pub mod Shifting
+pub mod Marking
+pub mod Backing
+pub mod Bases

@@ -56,7 +56,7 @@ same-behind encoding treat final bytes more used items (AtCut start) within is =
     let same : start - 0 ≡ used + (start - used) = omega (arith, cut.past) in
     ap (λ (left : List ℕ). on-behind encoding treat final more items (AtCut start) start left) (ap (λ (k : ℕ). drop k bytes) same ∙ sym (drop-drop (start - used) used bytes))
 
-both-before : (first second : List Item) (walk : Walk) → items_before (first ++ second) walk ≡ items_before first (items_before second walk)
+pub both-before : (first second : List Item) (walk : Walk) → items_before (first ++ second) walk ≡ items_before first (items_before second walk)
 both-before first second walk = ap (λ (items : List Item). record walk { items = items }) (append_assoc first second walk.items)
 
 -- whatever comes behind, while more may come

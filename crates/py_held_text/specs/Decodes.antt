@@ -1,11 +1,12 @@
 -- What a decoding of the bytes in hand changes, and why it goes no further.
-use Rattle.std.specs.Prelude.{◌≡◌, ℕ, ◌+◌, ◌*◌, ◌^◌, ◌<◌, ◌≤◌, Bool, true, false, List, [], ◌++◌, length, drop, Option, Some, None, Result, Ok, Err, if◌then◌else◌}
+use Rattle.std.specs.Prelude.{◌≡◌, ℕ, ◌+◌, ◌*◌, ◌^◌, ◌<◌, ◌≤◌, Bool, true, false, List, [], ◌++◌, length, take, drop, Option, Some, None, Result, Ok, Err, if◌then◌else◌}
 use Rattle.py_flat.specs.declared.fault.IoFault.{IoFault}
 use Rattle.py_flat.specs.declared.fault.IoFault.TheVariants.{NoMemory}
-use Rattle.py_plain.specs.Items.{AtRange, ends, refusal_of}
+use Rattle.py_plain.specs.Items.{Item, AtRange, ends, refusal_of}
+use Rattle.py_plain.specs.Pieces.{items_before}
 use Rattle.py_held_text.specs.declared.held_stop.HeldStop.{HeldStop}
 use Rattle.py_held_text.specs.declared.held_stop.HeldStop.TheVariants.{Drained, Refused}
-use Rattle.py_held_text.specs.Held.{HeldView, ahead, whole_of, left_with, left_so_far}
+use Rattle.py_held_text.specs.Held.{HeldView, ahead, mark_by, whole_of, left_with, left_so_far}
 
 -- how bytes are read stays
 pub record KeepsSettings (old new : HeldView) : Type 0 where
@@ -17,20 +18,30 @@ pub record KeepsSettings (old new : HeldView) : Type 0 where
 abbrev pub known_with_cr : HeldView → ℕ
 known_with_cr held = length held.known + (if held.cr then 1 else 0)
 
+-- some items are decoded of one, and then what is decoded of another, whatever comes behind as both have it
+abbrev pub Passes : (before behind : HeldView) → List ℕ → Type 0
+Passes before behind more = (items : List Item) × (ahead before true more ≡ items_before items (ahead behind true more))
+
 -- Some bytes in hand were used, and what is known has grown by what they gave: at most six characters for each of them. What is left
--- stays, whatever bytes come behind those in hand, none where these are the last. Where bytes are kept so are those that were used
+-- stays, whatever bytes come behind those in hand, none where these are the last; the place behind the bytes that were used is a boundary
+-- between items. The base stays, and those bytes stand behind it; a mark is set where there was none
 pub record Decodes (last : Bool) (old new : HeldView) : Type 0 where
   pub settings : KeepsSettings old new
   pub used : ℕ
   pub within : used ≤ length old.bytes
   pub bytes : new.bytes ≡ drop used old.bytes
   pub place : new.place ≡ old.place + used
+  pub order : new.order ≡ old.order
   pub room : old.room ≤ new.room
+  pub back : new.back ≡ old.back ++ take used old.bytes
   pub whole : whole_of new ≡ whole_of old
+  pub given : new.given ≡ old.given
+  pub mark : new.mark ≡ mark_by old.mark old.cr (length old.known) (length old.back)
   pub grows : (more : List ℕ) × (new.known ≡ old.known ++ more)
   pub few : known_with_cr new ≤ known_with_cr old + 6 * used
   pub left : (more : List ℕ) → (last ≡ true → more ≡ []) → left_with new more ≡ left_with old more
   pub so_far : last ≡ false → (more : List ℕ) → left_so_far new more ≡ left_so_far old more
+  pub items : (more : List ℕ) → (last ≡ true → more ≡ []) → Passes old new more
 
 -- no item stands in hand, and no refused range; where nothing comes behind, there are no bytes
 pub record IsDrained (last : Bool) (held : HeldView) : Type 0 where

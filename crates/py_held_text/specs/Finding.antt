@@ -1,5 +1,5 @@
 -- How much of what is known a call is answered with.
-use Rattle.std.specs.Prelude.{◌≡◌, ℕ, nat_le, List, [], ◌∷◌, ◌++◌, length, take, drop, Option, Some, None, Result, Ok, Err, String, if◌then◌else◌}
+use Rattle.std.specs.Prelude.{◌≡◌, ℕ, nat_le, List, [], ◌∷◌, ◌++◌, length, take, Option, Some, None, Result, Ok, Err, String, if◌then◌else◌}
 use Rattle.std.specs.declared.alloc.Global.{Global}
 use Rattle.py_flat.specs.declared.fault.IoFault.{IoFault}
 use Rattle.py_flat.specs.declared.fault.IoFault.TheVariants.{NoMemory}
@@ -12,7 +12,7 @@ use Rattle.py_held_text.specs.declared.wanted.Wanted.{Wanted}
 use Rattle.py_held_text.specs.declared.wanted.Wanted.TheVariants.{Characters, Line}
 use Rattle.py_blocks.specs.declared.fronts.TextFront.{TextFront}
 pub use Rattle.py_blocks.specs.Fronts.{IsFrontOf}
-use Rattle.py_held_text.specs.Held.{HeldView, kept_behind}
+use Rattle.py_held_text.specs.Held.{HeldView, given_on}
 
 -- the answer of a call where some characters are all that is left
 abbrev pub answer_of : Wanted → Newlines → List ℕ → List ℕ
@@ -41,7 +41,7 @@ abbrev pub enough_before : Wanted → Newlines → List ℕ → Option ℕ
 enough_before (Characters size) newline cs = size_in_hand size cs
 enough_before (Line limit) newline cs = if is_ended (line_end newline) limit cs then Some (length (first_line (line_end newline) limit cs)) else None
 
--- a front was given, and is known no more; where it has a character the bytes that were kept aren't, nor is all their room; running out of memory leaves all as it was
+-- a front was given, and is known no more, and nothing else changed but the base and the room; running out of memory leaves all as it was
 abbrev pub GiveOutcome : TextFront → HeldView → Result (String Global) IoFault → HeldView → Type 0
-GiveOutcome front old (Ok text) new = (text_of text ≡ take front.chars old.known) × (new ≡ record old { known = drop front.chars old.known; kept = kept_behind front.chars old.kept; room = new.room })
+GiveOutcome front old (Ok text) new = (text_of text ≡ take front.chars old.known) × (new ≡ record (given_on front.chars old) { room = new.room })
 GiveOutcome front old (Err why) new = (why ≡ NoMemory) × (new ≡ old)

@@ -1,5 +1,5 @@
 -- What a text stream has in hand: characters that it knows, and bytes that it took and hasn't decoded yet.
-use Rattle.std.specs.Prelude.{ℕ, zero, suc, ◌+◌, ◌-◌, ◌≤◌, Bool, true, false, List, [], ◌++◌, length, take, Option, Some, None, option_map, if◌then◌else◌}
+use Rattle.std.specs.Prelude.{ℕ, ◌+◌, ◌-◌, ◌*◌, ◌≤◌, nat_eq, nat_lt, Bool, true, false, ◌||◌, List, [], ◌++◌, length, take, drop, Option, Some, None, IfSome, if◌then◌else◌}
 use Rattle.py_flat.specs.Limits.{greatest_place}
 use Rattle.py_plain.specs.declared.encoding.Encoding.{Encoding}
 use Rattle.py_plain.specs.declared.handler.Handler.{Handler}
@@ -11,17 +11,22 @@ use Rattle.py_plain.specs.Pieces.{walk_at}
 use Rattle.py_plain.specs.NewlineRule.{read_so_far, read_all}
 use Rattle.py_plain_text.specs.Rest.{Rest}
 use Rattle.py_text.specs.declared.coder.Coder.{Coder}
+use Rattle.py_held_text.specs.declared.base.Mark.{Mark}
+use Rattle.py_held_text.specs.declared.base.BaseMove.{BaseMove}
 
 -- how the bytes are read; the characters that are known and not given; whether a CR is held behind them, which the next
--- character releases; the bytes that were decoded, while they are kept; the bytes behind them that aren't decoded, the place of
--- the first of those in the stream, and the order that they are read in; and for how many bytes more there is room
+-- character releases; the bytes that were decoded since the base, a boundary between items, how many characters were given since, and a
+-- later base that is to come; the bytes behind them that aren't decoded, the place of the first of those in the stream, and the order
+-- that they are read in; and for how many bytes more there is room
 pub record HeldView : Type 0 where
   pub encoding : Encoding
   pub handler : Handler
   pub newline : Newlines
   pub known : List ℕ
   pub cr : Bool
-  pub kept : Option (List ℕ)
+  pub back : List ℕ
+  pub given : ℕ
+  pub mark : Option Mark
   pub bytes : List ℕ
   pub place : ℕ
   pub order : Order
@@ -29,36 +34,69 @@ pub record HeldView : Type 0 where
 
 -- nothing is in hand, at a place of the stream
 abbrev pub nothing_held : Coder → Newlines → (place room : ℕ) → HeldView
-nothing_held coder newline place room = record { encoding = coder.encoding; handler = coder.errors; newline = newline; known = []; cr = false; kept = Some []; bytes = []; place = place; order = Unknown; room = room }
+nothing_held coder newline place room = record { encoding = coder.encoding; handler = coder.errors; newline = newline; known = []; cr = false; back = []; given = 0; mark = None; bytes = []; place = place; order = Unknown; room = room }
 
 -- nothing is in hand any more, at another place of the stream
 abbrev pub cleared : HeldView → (place room : ℕ) → HeldView
-cleared held place room = record held { known = []; cr = false; kept = Some []; bytes = []; place = place; order = Unknown; room = room }
+cleared held place room = record held { known = []; cr = false; back = []; given = 0; mark = None; bytes = []; place = place; order = Unknown; room = room }
 
--- What is kept.
+-- The base.
 
--- the first n of some bytes, where they are kept
-abbrev pub kept_of : Bool → ℕ → List ℕ → Option (List ℕ)
-kept_of keeps count bytes = if keeps then Some (take count bytes) else None
+-- the bytes from n on, of which the first m are decoded
+abbrev pub back_of : (gone decoded : ℕ) → List ℕ → List ℕ
+back_of gone decoded bytes = take (decoded - gone) (drop gone bytes)
 
--- what is kept once n characters were given: nothing, where there was one
-abbrev pub kept_behind : ℕ → Option (List ℕ) → Option (List ℕ)
-kept_behind zero kept = kept
-kept_behind (suc count) kept = None
+-- all bytes from the base on
+abbrev pub whole_of : HeldView → List ℕ
+whole_of held = held.back ++ held.bytes
 
--- of n bytes the first m are decoded, and those behind them, which stand at a place, end no further than a stream can
-pub record IsHeld (total decoded place : ℕ) : Type 0 where
+-- the place of the base in the stream
+abbrev pub base_of : HeldView → ℕ
+base_of held = held.place - length held.back
+
+-- all bytes from the base on are in hand again and none is decoded, to be read by other settings
+abbrev pub held_anew : Coder → Newlines → HeldView → HeldView
+held_anew coder newline held = record { encoding = coder.encoding; handler = coder.errors; newline = newline; known = []; cr = false; back = []; given = 0; mark = None; bytes = whole_of held; place = base_of held; order = Unknown; room = held.room }
+
+-- whether the next character stands behind a mark
+abbrev pub comes_next : Option Mark → Bool
+comes_next None = false
+comes_next (Some mark) = nat_eq mark.count 0
+
+-- the mark once more is decoded, by how many characters are known and how many bytes stand between the base and here: it is set here,
+-- unless that is the base, or a CR is held whose byte is decoded, or the base moves to the mark that there is with the next character
+abbrev pub mark_by : Option Mark → (cr : Bool) → (count passed : ℕ) → Option Mark
+mark_by mark cr count passed = if (cr || nat_eq passed 0) || comes_next mark then mark else Some (record { count = count; passed = passed })
+
+-- where the base stands once n characters more were given: where one of them stands behind the mark, there; else where it stood
+abbrev pub base_behind : (count given : ℕ) → Option Mark → BaseMove
+base_behind count given None = record { passed = 0; given = given + count; mark = None }
+base_behind count given (Some mark) =
+    if nat_lt mark.count count then record { passed = mark.passed; given = count - mark.count; mark = None }
+    else record { passed = 0; given = given + count; mark = Some (record mark { count = mark.count - count }) }
+
+-- n characters were given: they aren't known any more, and the base moves to a mark that one of them stands behind
+abbrev pub given_on : ℕ → HeldView → HeldView
+given_on count held =
+    let base : BaseMove = base_behind count held.given held.mark in
+    record held { known = drop count held.known; back = drop base.passed held.back; given = base.given; mark = base.mark }
+
+-- a mark stands among the known characters and the bytes that were decoded since the base, and behind it stand at most six characters for
+-- each of those bytes
+pub record IsMark (known back : ℕ) (cr : Bool) (mark : Mark) : Type 0 where
+  pub count : mark.count ≤ known
+  pub passed : mark.passed ≤ back
+  pub few : known + (if cr then 1 else 0) + 6 * mark.passed ≤ mark.count + 6 * back
+
+-- of n bytes the first m are decoded, and of these the first few stand before the base; those behind them, which stand at a place, end no
+-- further than a stream can. At most six characters were given and are known for each byte since the base, and so it is with the mark
+pub record IsHeld (total gone decoded place known given : ℕ) (cr : Bool) (mark : Option Mark) : Type 0 where
+  pub from : gone ≤ decoded
   pub within : decoded ≤ total
-  pub behind : decoded ≤ place
+  pub behind : decoded ≤ place + gone
   pub near : place + total ≤ greatest_place + decoded
-
--- all bytes that were put into what is in hand, of which nothing was given
-abbrev pub whole_of : HeldView → Option (List ℕ)
-whole_of held = option_map (λ kept. kept ++ held.bytes) held.kept
-
--- all bytes are in hand again and none is decoded, to be read by other settings
-abbrev pub held_anew : Coder → Newlines → List ℕ → HeldView → HeldView
-held_anew coder newline kept held = record { encoding = coder.encoding; handler = coder.errors; newline = newline; known = []; cr = false; kept = Some []; bytes = kept ++ held.bytes; place = held.place - length kept; order = Unknown; room = held.room }
+  pub few : given + known + (if cr then 1 else 0) ≤ 6 * (decoded - gone)
+  pub marked : IfSome mark (IsMark known (decoded - gone) cr)
 
 -- What is left.
 

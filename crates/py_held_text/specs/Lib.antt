@@ -1,5 +1,6 @@
 pub mod Held
 pub mod Decodes
+pub mod Bases
 pub mod Finding
 pub mod Known
 pub mod LineSearch

@@ -1,4 +1,4 @@
-ghost use Rattle.std.specs.Prelude.{◌≡◌, ◌++◌, ◌+◌, ◌-◌, ◌≤◌, true, false, [], Some, None, length, take, drop, vec_len, vec_capacity, option_map, is_some, IfErr, IfSome, OnOk, OnErr};
+ghost use Rattle.std.specs.Prelude.{◌≡◌, ◌++◌, ◌+◌, ◌-◌, ◌≤◌, true, false, [], length, take, drop, vec_len, vec_capacity, option_map, IfErr, IfSome, OnOk, OnErr};
 ghost use Rattle.py_flat.specs.Limits.{greatest_place};
 ghost use Rattle.py_plain.specs.Units.{Unknown};
 ghost use Rattle.py_plain.specs.Handlers.{reads_texts};
@@ -7,9 +7,10 @@ ghost use Rattle.py_held_text.specs.Held.{nothing_held, cleared, held_anew};
 ghost use Rattle.py_held_text.specs.Decodes.{DecodeOutcome, DecodeLastOutcome, PartOutcome};
 ghost use Rattle.py_held_text.specs.Finding.{IsFrontOf, answer_of, enough, enough_before, GiveOutcome};
 
+use crate::base::{base_behind, next_mark};
 use crate::known_text::KnownText;
 use crate::reach::reach;
-use crate::{HeldStop, Wanted};
+use crate::{HeldStop, Mark, Wanted};
 use py_blocks::TextFront;
 use py_codec::{FrontStop, IoFault};
 use py_plain::Newlines;
@@ -19,22 +20,28 @@ use std::fmt;
 use std::marker::Model;
 
 /// What a text stream has in hand: characters that it knows and hasn't given, and the bytes that it took behind them and
-/// hasn't decoded. While no character was given since it was made or cleared, the bytes that were decoded are kept, so that
-/// they can be read anew by other settings.
+/// hasn't decoded. Of those that were decoded it has the last, from a base on, a boundary between items, and it counts the
+/// characters that were given since; so where the text stands is told by what is in hand. While no character was given
+/// since it was made or cleared, the base is where it began, and all can be read anew by other settings. The base moves
+/// on with what is given, so that what is in hand doesn't grow with the stream.
 ///
 /// Contracts see the settings, the known characters, whether a CR is held behind them (under the universal rule, until
-/// the next character releases it), the bytes that are kept, those that aren't decoded with their place in the stream and
-/// the order that they are read in, and the room for more. Whatever bytes come behind those in hand, the text that is left
-/// stays: decoding moves it from bytes to characters, and only `give`, `clear` and `read_anew` change it.
+/// the next character releases it), the bytes that were decoded since the base, the characters that were given since, the
+/// next base, the bytes that aren't decoded with their place in the stream and the order that they are read in, and the
+/// room for more. Whatever bytes come behind those in hand, the text that is left stays: decoding moves it from bytes to
+/// characters, and only `give`, `clear` and `read_anew` change it.
 #[derive(Drop)]
 pub struct HeldText {
     coder: Coder,
     known: KnownText,
     bytes: Vec<u8>,
+    /// How many of the bytes stand before the base: they are removed when room is taken.
+    gone: usize,
     /// How many of the bytes are decoded.
     decoded: usize,
-    /// Whether bytes are kept once they are decoded.
-    keeps: bool,
+    /// How many characters were given since the base.
+    given: u128,
+    mark: Option<Mark>,
     place: u64,
 }
 
@@ -42,7 +49,7 @@ impl Model for HeldText {
     ghost use Rattle.std.specs.Prelude.{◌≡◌, ◌-◌, true, length, drop, vec_len, vec_capacity};
     ghost use Rattle.py_plain.specs.Units.{Unknown};
     ghost use Rattle.py_plain.specs.Handlers.{reads_texts};
-    ghost use Rattle.py_held_text.specs.Held.{HeldView, kept_of, IsHeld};
+    ghost use Rattle.py_held_text.specs.Held.{HeldView, back_of, IsHeld};
 
     ghost Value = { HeldView };
 
@@ -52,14 +59,16 @@ impl Model for HeldText {
       newline = h.known.newline;
       known = h.known.characters;
       cr = h.known.cr;
-      kept = kept_of h.keeps h.decoded h.bytes.items;
+      back = back_of h.gone h.decoded h.bytes.items;
+      given = h.given;
+      mark = h.mark;
       bytes = drop h.decoded h.bytes.items;
       place = h.place;
       order = Unknown;
       room = vec_capacity h.bytes - vec_len h.bytes;
     } };
 
-    ghost invariant = { λ h. (reads_texts h.coder.errors ≡ true) × IsHeld (vec_len h.bytes) h.decoded h.place };
+    ghost invariant = { λ h. (reads_texts h.coder.errors ≡ true) × IsHeld (vec_len h.bytes) h.gone h.decoded h.place (length h.known.characters) h.given h.known.cr h.mark };
 }
 
 // Only how much is in hand, and not what: thousands of characters would hide all else.
@@ -120,8 +129,10 @@ impl HeldText {
             coder,
             known: KnownText::new(alloc, newline),
             bytes: Vec::new(alloc),
+            gone: 0,
             decoded: 0,
-            keeps: true,
+            given: 0,
+            mark: None,
             place,
         }
     }
@@ -160,6 +171,7 @@ impl HeldText {
     pub fn place(&self) -> u64
         ensures place { result ≡ self.now.place }
         ensures near { result + length self.now.bytes ≤ greatest_place }
+        ensures back { length self.now.back ≤ result }
     {
         self.place
     }
@@ -172,11 +184,30 @@ impl HeldText {
         ensures same { OnErr result (self.new ≡ self.old) }
     {
         self.bytes.reserve(size)?;
-        if !self.keeps {
-            drop_front(&mut self.bytes, self.decoded);
-            self.decoded = 0;
-        }
+        self.forget();
         Ok(())
+    }
+
+    /// Removes the bytes before the base.
+    fn forget(&mut self)
+        ensures rest { self.new ≡ record self.old { room = self.new.room } }
+        ensures room { self.old.room ≤ self.new.room }
+    {
+        if self.gone > 0 {
+            drop_front(&mut self.bytes, self.gone);
+            self.decoded -= self.gone;
+            self.gone = 0;
+        }
+    }
+
+    /// Lets go of the bytes before the base, and of most of the room, where they are many and most of all.
+    fn shrink(&mut self)
+        ensures { self.new ≡ record self.old { room = self.new.room } }
+    {
+        if self.gone > KEPT && self.gone > self.bytes.len() / 2 {
+            self.forget();
+            trim(&mut self.bytes);
+        }
     }
 
     /// Puts bytes behind those in hand, for which there is room; for others there is as much less. It takes no memory.
@@ -253,12 +284,19 @@ impl HeldText {
         requires some { 1 ≤ want }
         ensures { PartOutcome last size want self.old result self.new }
     {
+        let mark = next_mark(
+            self.mark,
+            self.known.holds_cr(),
+            self.known.len(),
+            self.decoded - self.gone,
+        );
         let bytes = behind(&self.bytes, self.decoded);
         let is_all = size == bytes.len();
         let front = self
             .known
             .decode(alloc, self.coder, &bytes[..size], want, last)?;
         let from = self.place;
+        self.mark = mark;
         self.decoded += front.used;
         self.place += front.used as u64;
         match front.stop {
@@ -316,8 +354,8 @@ impl HeldText {
         self.known.find_last(wanted)
     }
 
-    /// Gives a front of what is known, which isn't known any more. Once it has a character, bytes that were decoded aren't
-    /// kept any more.
+    /// Gives a front of what is known, which isn't known any more. The base moves to the mark once the front has a character
+    /// behind it, and the bytes before the base aren't in hand any more.
     ///
     /// `NoMemory` when out of memory, and all is as before.
     pub fn give(&mut self, alloc: Global, front: TextFront) -> Result<String, IoFault>
@@ -325,36 +363,27 @@ impl HeldText {
         ensures { GiveOutcome front self.old result self.new }
     {
         let text = self.known.give(alloc, front)?;
-        if front.chars > 0 {
-            self.let_go();
-        }
+        let base = base_behind(front.chars, self.given, self.mark);
+        self.gone += base.passed;
+        self.given = base.given;
+        self.mark = base.mark;
+        self.shrink();
         Ok(text)
     }
 
-    /// Lets go of the bytes that are kept, and keeps none from here on.
-    fn let_go(&mut self)
-        ensures { self.new ≡ record self.old { kept = None; room = self.new.room } }
-    {
-        if self.keeps {
-            self.keeps = false;
-            drop_front(&mut self.bytes, self.decoded);
-            self.decoded = 0;
-            trim(&mut self.bytes);
-        }
-    }
-
-    /// Has all bytes in hand again, also those that were decoded, which are kept, to read them by other settings: nothing is
-    /// known then. It takes no memory.
+    /// Has all bytes from the base on in hand again, also those that were decoded, to read them by other settings: nothing is
+    /// known then, and the base stays. It takes no memory.
     pub fn read_anew(&mut self, coder: Coder, newline: Newlines)
         requires reads { reads_texts coder.errors ≡ true }
-        requires kept { is_some self.old.kept ≡ true }
-        ensures anew { IfSome self.old.kept (λ kept. self.new ≡ held_anew coder newline kept self.old) }
-        ensures behind { IfSome self.old.kept (λ kept. length kept ≤ self.old.place) }
+        ensures anew { self.new ≡ held_anew coder newline self.old }
+        ensures behind { length self.old.back ≤ self.old.place }
     {
         self.coder = coder;
         self.known.clear(newline);
-        self.place -= self.decoded as u64;
-        self.decoded = 0;
+        self.place -= (self.decoded - self.gone) as u64;
+        self.decoded = self.gone;
+        self.given = 0;
+        self.mark = None;
     }
 
     /// Lets go of all that is in hand, and stands at another byte place of the stream.
@@ -365,8 +394,10 @@ impl HeldText {
     {
         self.known.clear(self.known.newline());
         self.bytes.clear();
+        self.gone = 0;
         self.decoded = 0;
-        self.keeps = true;
+        self.given = 0;
+        self.mark = None;
         self.place = place;
     }
 }

@@ -95,6 +95,13 @@ impl KnownText {
         self.count
     }
 
+    /// Whether a CR is held behind them.
+    pub fn holds_cr(&self) -> bool
+        ensures { result ≡ self.now.cr }
+    {
+        self.cr
+    }
+
     /// Lets go of all, and reads by a rule from here on.
     pub fn clear(&mut self, newline: Newlines)
         ensures { self.new ≡ record { newline = newline; characters = []; cr = false } }

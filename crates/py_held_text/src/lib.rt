@@ -4,6 +4,7 @@
 //! answer of a call. Fronts of them are given.
 #![tactic(auto)]
 
+mod base;
 mod decoding;
 mod held_stop;
 mod held_text;
@@ -12,6 +13,7 @@ mod line_search;
 mod reach;
 mod wanted;
 
+pub use base::{BaseMove, Mark};
 pub use held_stop::HeldStop;
 pub use held_text::{HeldText, drop_front};
 pub use py_blocks::TextFront as HeldFront;

@@ -35,7 +35,7 @@ knows_begun settings bytes place room =
       left = refl;
       shows = λ more front. subst (λ (since : List ℕ). length (left_so_far (from_place settings place) (since ++ more)).characters ≤ 0 + length (left_so_far (record (from_place settings place) { room = room }) more).characters) (sym none) (omega arith);
       sound = λ more front says. subst (λ (since : List ℕ). (left_so_far (from_place settings place) (since ++ more)).refusal ≡ None) (sym none) says;
-      whole = λ zero since is. let same : [] ≡ since = cc in ap (λ (own : List ℕ). own ++ left_at bytes place) same;
+      whole = λ zero. refl;
     }
 
 pub text_begun : (buffer : Buffer) (coder reading : Coder) (settings : declared.TextSettings) (place : ℕ) → 0 < settings.chunk_size → is_unbuffered buffer.buffering ≡ false → buffer.exported ≡ false → OwesUpTo buffer.owed buffer.place → place ≡ buffer.place → place ≤ greatest_place → (buffer.can.readable ≡ true → reading ≡ coder) → IsText buffer (nothing_held reading settings.newline place 0) place 0 (settings_of coder settings)
@@ -50,7 +50,7 @@ text_begun buffer coder reading settings place asks buffered kept owes is far sa
   far = omega (arith, is, far);
   forth = omega arith;
   few = omega arith;
-  whole = λ zero. record { since = []; kept = refl; reaches = omega (arith, is) };
+  whole = λ zero. omega (arith, is);
   told = λ told live reads. subst (λ (own : ℕ). KnowsTold (settings_of coder settings) (flat_of buffer).bytes own place 0 (nothing_held reading settings.newline place 0)) is
       (subst (λ (own : Coder). KnowsTold (settings_of coder settings) (flat_of buffer).bytes place place 0 (nothing_held own settings.newline place 0)) (sym (same reads)) (knows_begun (settings_of coder settings) (flat_of buffer).bytes place 0));
 }

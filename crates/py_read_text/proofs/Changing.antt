@@ -1,5 +1,5 @@
 -- A text that is given other settings.
-use Rattle.std.proofs.Common.{◌≡◌, ℕ, ◌+◌, ◌-◌, ◌≤◌, max, Bool, true, false, ◌||◌, List, [], ◌++◌, length, take, Option, Some, None, is_some, option_map, unwrap_or, IfSome, refl, sym, ap, ◌∙◌, subst, arith}
+use Rattle.std.proofs.Common.{◌≡◌, ℕ, ◌+◌, ◌-◌, ◌≤◌, max, Bool, true, false, ◌||◌, List, [], ◌++◌, length, take, Option, Some, None, is_some, unwrap_or, refl, sym, ap, ◌∙◌, subst, arith}
 use Rattle.std.proofs.lemmas.List.{length-append}
 use Rattle.std.proofs.Math.Seq.{take-append_seam}
 use Rattle.py_flat.specs.Bytes.{left_at}
@@ -9,7 +9,7 @@ use Rattle.py_plain.specs.declared.newlines.Newlines.{Newlines}
 use Rattle.py_plain_text.specs.TextFile.{TextSettings}
 use Rattle.py_plain_text.specs.TextCalls.{Changes, changes_reading, changed}
 use Rattle.py_stream.specs.Buffer.{Buffer, flat_of}
-use Rattle.py_held_text.specs.Held.{HeldView, nothing_held, whole_of, held_anew, left_with, left_so_far}
+use Rattle.py_held_text.specs.Held.{HeldView, nothing_held, base_of, whole_of, held_anew, left_with, left_so_far}
 use Rattle.py_text.specs.declared.coder.Coder.{Coder}
 use Rattle.py_read_text.specs.Waiting.{bytes_between}
 use Rattle.py_read_text.specs.Knowing.{TextView, from_place, KnowsTold, IsText, IsSetTo}
@@ -30,7 +30,7 @@ knows_anew settings bytes far at room since reaches split within =
       left = ap (left_with (from_place settings at)) split;
       shows = λ more front. subst (λ (own : List ℕ). length (left_so_far (from_place settings at) (own ++ more)).characters ≤ 0 + length (left_so_far (held_from settings at since room) more).characters) (sym between) (omega arith);
       sound = λ more front says. subst (λ (own : List ℕ). (left_so_far (from_place settings at) (own ++ more)).refusal ≡ None) (sym between) says;
-      whole = λ none all is. let same : since ≡ all = cc in split ∙ ap (λ (own : List ℕ). own ++ left_at bytes far) same;
+      whole = λ none. split;
     }
 
 -- settings by which a text is read otherwise
@@ -40,23 +40,19 @@ set_to settings coder newline = record settings { encoding = coder.encoding; han
 abbrev held_by : Coder → Newlines → (at : ℕ) → List ℕ → (room : ℕ) → HeldView
 held_by coder newline at since room = record (nothing_held coder newline at room) { bytes = since }
 
-anew_is : (held new : HeldView) (coder : Coder) (newline : Newlines) (at : ℕ) (since : List ℕ) → whole_of held ≡ Some since → held.place + length held.bytes ≡ at + length since → IfSome held.kept (λ kept. new ≡ held_anew coder newline kept held) → IfSome held.kept (λ kept. length kept ≤ held.place) → new ≡ held_by coder newline at since held.room
-anew_is held new coder newline at since whole stands anew behind = by_kept held.kept whole anew behind
-  where
-    by_kept : (kept : Option (List ℕ)) → option_map (λ front. front ++ held.bytes) kept ≡ Some since → IfSome kept (λ front. new ≡ held_anew coder newline front held) → IfSome kept (λ front. length front ≤ held.place) → new ≡ held_by coder newline at since held.room
-    by_kept None whole anew behind = absurd (cc)
-    by_kept (Some front) whole anew behind =
-        let all : front ++ held.bytes ≡ since = cc in
-        let there : held.place - length front ≡ at = omega (arith, stands, behind, ap (λ (xs : List ℕ). length xs) all, length-append front held.bytes) in
-        anew ∙ (ap (λ (bytes : List ℕ). held_by coder newline (held.place - length front) bytes held.room) all ∙ ap (λ (place : ℕ). held_by coder newline place since held.room) there)
+anew_is : (held new : HeldView) (coder : Coder) (newline : Newlines) (at : ℕ) → held.place + length held.bytes ≡ at + length (whole_of held) → new ≡ held_anew coder newline held → length held.back ≤ held.place → new ≡ held_by coder newline at (whole_of held) held.room
+anew_is held new coder newline at stands anew behind =
+    let there : base_of held ≡ at = omega (arith, stands, behind, length-append held.back held.bytes) in
+    anew ∙ ap (λ (place : ℕ). held_by coder newline place (whole_of held) held.room) there
 
 -- a text of which nothing was taken, read anew
-pub text_anew : (buffer : Buffer) (held new : HeldView) (at taken : ℕ) (coder reading : Coder) (newline : Newlines) (settings : TextSettings) → taken ≡ 0 → IfSome held.kept (λ kept. new ≡ held_anew reading newline kept held) → IfSome held.kept (λ kept. length kept ≤ held.place) → (buffer.can.readable ≡ true → reading ≡ coder) → IsText buffer held at taken settings → IsText buffer new at taken (set_to settings coder newline)
+pub text_anew : (buffer : Buffer) (held new : HeldView) (at taken : ℕ) (coder reading : Coder) (newline : Newlines) (settings : TextSettings) → taken ≡ 0 → new ≡ held_anew reading newline held → length held.back ≤ held.place → (buffer.can.readable ≡ true → reading ≡ coder) → IsText buffer held at taken settings → IsText buffer new at taken (set_to settings coder newline)
 text_anew buffer held new at taken coder reading newline settings none anew behind same is =
-    let was = is.whole none in
+    let since : List ℕ = whole_of held in
+    let reaches : at + length since ≡ buffer.place = is.whole none in
     let after : TextSettings = set_to settings coder newline in
     let bytes : List ℕ = (flat_of buffer).bytes in
-    let new_is = anew_is held new reading newline at was.since was.kept (omega (arith, is.stands, was.reaches)) anew behind in
+    let new_is = anew_is held new reading newline at (is.stands ∙ sym reaches) anew behind in
     subst (λ (own : HeldView). IsText buffer own at taken after) (sym new_is) (record {
       reads_by = λ can. record { encoding = ap (λ (own : Coder). own.encoding) (same can); handler = ap (λ (own : Coder). own.errors) (same can); newline = refl };
       asks = is.asks;
@@ -64,16 +60,16 @@ text_anew buffer held new at taken coder reading newline settings none anew behi
       kept = is.kept;
       owes = is.owes;
       ahead = is.ahead;
-      stands = was.reaches;
+      stands = reaches;
       far = is.far;
       forth = omega arith;
       few = omega (arith, none);
-      whole = λ zero. record { since = was.since; kept = refl; reaches = was.reaches };
+      whole = λ zero. reaches;
       told = λ told live reads.
           let knows = is.told told live reads in
-          subst (λ (count : ℕ). KnowsTold after bytes buffer.place at count (held_by reading newline at was.since held.room)) (sym none)
-          (subst (λ (own : Coder). KnowsTold after bytes buffer.place at 0 (held_by own newline at was.since held.room)) (sym (same reads))
-          (knows_anew after bytes buffer.place at held.room was.since was.reaches (knows.whole none was.since was.kept) knows.within));
+          subst (λ (count : ℕ). KnowsTold after bytes buffer.place at count (held_by reading newline at since held.room)) (sym none)
+          (subst (λ (own : Coder). KnowsTold after bytes buffer.place at 0 (held_by own newline at since held.room)) (sym (same reads))
+          (knows_anew after bytes buffer.place at held.room since reaches (knows.whole none) knows.within));
     })
 
 -- Settings that are given.

@@ -1,5 +1,5 @@
 -- What holds of every text stays so.
-use Rattle.std.proofs.Common.{◌≡◌, ◌⊎◌, inl, inr, true, ℕ, ◌+◌, ◌≤◌, Bool, false, IsTrue, List, [], ◌++◌, length, sym, ap, subst, ◌∙◌, arith}
+use Rattle.std.proofs.Common.{◌≡◌, ◌⊎◌, inl, inr, true, ℕ, ◌+◌, ◌≤◌, Bool, false, IsTrue, List, [], length, sym, ap, subst, ◌∙◌, arith}
 use Rattle.std.proofs.lemmas.List.{length-append, length-drop}
 use Rattle.py_flat.specs.declared.life.Life.TheVariants as life
 use Rattle.py_flat.specs.Bytes.{left_at}
@@ -10,7 +10,7 @@ use Rattle.py_plain_text.specs.TextFile.{TextSettings}
 use Rattle.py_raw.specs.RawStream.{tells}
 use Rattle.py_raw.proofs.Telling.{tells_still}
 use Rattle.py_stream.specs.Buffer.{Buffer, WhereShown, flat_of}
-use Rattle.py_held_text.specs.Held.{HeldView}
+use Rattle.py_held_text.specs.Held.{HeldView, whole_of}
 use Rattle.py_read_text.specs.Knowing.{KnowsTold, IsText}
 use Rattle.py_read_text.specs.Reading.{Follows, Reads, GaveTold}
 use Rattle.py_read_text.proofs.Knowing.{knows_follows, knows_part, knows_given, with_part, whole_part, without_front, given_none}
@@ -28,7 +28,7 @@ text_follows buffer old new at taken settings Behind follows may is = record {
   far = is.far;
   forth = omega (arith, is.forth, follows.forth);
   few = omega (arith, is.forth, is.few, follows.forth, follows.few);
-  whole = λ none. let was = is.whole none in record { since = was.since; kept = follows.whole ∙ was.kept; reaches = was.reaches };
+  whole = λ none. ap (λ (xs : List ℕ). at + length xs) follows.whole ∙ is.whole none;
   told = λ told live reads. knows_follows settings (flat_of buffer).bytes buffer.place at taken Behind old new follows (may told) (is.told told live reads);
 }
 
@@ -48,7 +48,7 @@ text_room buffer held at taken room settings is = record {
   far = is.far;
   forth = is.forth;
   few = is.few;
-  whole = λ none. let was = is.whole none in record { since = was.since; kept = was.kept; reaches = was.reaches };
+  whole = is.whole;
   told = λ told live reads. in_room settings (flat_of buffer).bytes buffer.place at taken held room (is.told told live reads);
 }
 
@@ -75,7 +75,7 @@ text_read_nothing before after held at taken settings waited faulted live reads 
   far = reads.far;
   forth = is.forth;
   few = is.few;
-  whole = λ none. let was = is.whole none in record { since = was.since; kept = was.kept; reaches = was.reaches ∙ sym place };
+  whole = λ none. is.whole none ∙ sym place;
   told = λ told lives can.
       let was : IsTrue (tells before.raw) = sym (tells_still before.raw after.raw reads.keeps.raw) ∙ told in
       let knows = is.told was live (sym (ap (λ (abilities : Abilities). abilities.readable) reads.keeps.can) ∙ can) in
@@ -95,7 +95,7 @@ text_brought before after held part room at taken settings live reading reads pl
   far = reads.far;
   forth = is.forth;
   few = is.few;
-  whole = λ none. let was = is.whole none in record { since = was.since ++ part; kept = whole_part held.kept held.bytes part was.since was.kept; reaches = omega (arith, was.reaches, place, length-append was.since part) };
+  whole = λ none. omega (arith, is.whole none, place, ap length (whole_part held part), length-append (whole_of held) part);
   told = λ told lives can.
       let was : IsTrue (tells before.raw) = sym (tells_still before.raw after.raw reads.keeps.raw) ∙ told in
       let knows = is.told was live (sym (ap (λ (abilities : Abilities). abilities.readable) reads.keeps.can) ∙ can) in
@@ -117,7 +117,7 @@ text_given buffer held at taken count room settings within is = record {
   far = is.far;
   forth = is.forth;
   few = omega (arith, is.few, within, length-drop count held.known);
-  whole = λ none. let was = is.whole (omega (arith, none)) in record { since = was.since; kept = given_none held count room (omega (arith, none)) ∙ was.kept; reaches = was.reaches };
+  whole = λ none. ap (λ (xs : List ℕ). at + length xs) (given_none held count room (omega (arith, none))) ∙ is.whole (omega (arith, none));
   told = λ told live reads. knows_given settings (flat_of buffer).bytes buffer.place at taken held count room within (is.told told live reads);
 }
 

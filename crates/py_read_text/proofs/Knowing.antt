@@ -1,5 +1,6 @@
 -- How what is known of a text stays tied to the bytes below.
-use Rattle.std.proofs.Common.{◌≡◌, ℕ, ◌+◌, ◌-◌, ◌≤◌, true, false, List, [], ◌∷◌, ◌++◌, length, take, drop, Option, Some, None, option_map, refl, sym, ap, subst, ◌∙◌, arith}
+use Rattle.std.proofs.Common.{◌≡◌, ℕ, ◌+◌, ◌-◌, ◌≤◌, nat_lt, if◌then◌else◌, Bool, true, false, List, [], ◌∷◌, ◌++◌, length, take, drop, Option, Some, None, refl, sym, ap, subst, ◌∙◌, arith}
+use Rattle.std.proofs.lemmas.Bool.{ltb-true}
 use Rattle.std.proofs.lemmas.List.{append-nil, append_assoc, length-append, length-drop, length-take-le, take-append-drop, drop-drop}
 use Rattle.std.proofs.Math.Seq.{take-add, drop-append_seam, take-append_seam}
 use Rattle.py_flat.specs.Bytes.{left_at}
@@ -10,7 +11,9 @@ use Rattle.py_plain.specs.Pieces.{walk_at}
 use Rattle.py_plain.specs.NewlineRule.{read_so_far, read_all}
 use Rattle.py_plain_text.specs.TextFile.{TextSettings}
 use Rattle.py_plain_text.specs.Rest.{Rest}
-use Rattle.py_held_text.specs.Held.{HeldView, ahead, kept_behind, whole_of, left_with, left_so_far}
+use Rattle.py_held_text.specs.declared.base.Mark.{Mark}
+use Rattle.py_held_text.specs.declared.base.BaseMove.{BaseMove}
+use Rattle.py_held_text.specs.Held.{HeldView, ahead, base_behind, given_on, whole_of, left_with, left_so_far}
 use Rattle.py_read_text.specs.Waiting.{bytes_between}
 use Rattle.py_read_text.specs.Knowing.{from_place, with_given, KnowsTold}
 use Rattle.py_read_text.specs.Reading.{Follows}
@@ -31,7 +34,7 @@ knows_follows settings bytes far at taken Behind old new follows may told =
       left = told.left ∙ ap (with_given told.given) (sym (follows.left rest (may rest (itself rest))));
       shows = λ more front. omega (arith, told.shows more front, follows.shows more (may more front));
       sound = λ more front none. told.sound more front (follows.sound more (may more front) none);
-      whole = λ none since is. told.whole none since (sym follows.whole ∙ is);
+      whole = λ none. told.whole none ∙ ap (λ (xs : List ℕ). xs ++ rest) (sym follows.whole);
     }
 
 -- nothing but nothing comes behind the end
@@ -47,18 +50,9 @@ ends_behind bytes far end more front = nothing_before more front.0 (front.1 ∙ 
 abbrev pub with_part : HeldView → List ℕ → ℕ → HeldView
 with_part held part room = record held { bytes = held.bytes ++ part; room = room }
 
--- all bytes in hand, with those that came
-pub whole_part : (kept : Option (List ℕ)) (bytes part since : List ℕ) → option_map (λ front. front ++ bytes) kept ≡ Some since → option_map (λ front. front ++ (bytes ++ part)) kept ≡ Some (since ++ part)
-whole_part None bytes part since is = absurd (cc)
-whole_part (Some front) bytes part since is =
-    let same : front ++ bytes ≡ since = cc in
-    ap Some (sym (append_assoc front bytes part) ∙ ap (λ (xs : List ℕ). xs ++ part) same)
-
-was_whole : (kept : Option (List ℕ)) (bytes part all : List ℕ) → option_map (λ front. front ++ (bytes ++ part)) kept ≡ Some all → (since : List ℕ) × (option_map (λ front. front ++ bytes) kept ≡ Some since) × (all ≡ since ++ part)
-was_whole None bytes part all is = absurd (cc)
-was_whole (Some front) bytes part all is =
-    let same : front ++ (bytes ++ part) ≡ all = cc in
-    (front ++ bytes, refl, sym same ∙ sym (append_assoc front bytes part))
+-- all bytes from the base on, with those that came
+pub whole_part : (held : HeldView) (part : List ℕ) → whole_of held ++ part ≡ held.back ++ (held.bytes ++ part)
+whole_part held part = append_assoc held.back held.bytes part
 
 left_part : (held : HeldView) (part more : List ℕ) (room : ℕ) → left_with (with_part held part room) more ≡ left_with held (part ++ more)
 left_part held part more room =
@@ -101,19 +95,25 @@ knows_part settings bytes far at taken held part room forth front told =
           (subst (λ (rest : Rest). length (left_so_far (from_place settings at) (bytes_between bytes at far ++ (part ++ more))).characters ≤ taken + length rest.characters) (sym (so_far_part held part more room)) (told.shows (part ++ more) (longer more own)));
       sound = λ more own none. subst (λ (all : List ℕ). (left_so_far (from_place settings at) all).refusal ≡ None) (sym (taken_bytes more))
           (told.sound (part ++ more) (longer more own) (sym (ap (λ (rest : Rest). rest.refusal) (so_far_part held part more room)) ∙ none));
-      whole = λ none since is.
-          let was = was_whole held.kept held.bytes part since is in
-          told.whole none was.0 was.1 ∙ (ap (λ (xs : List ℕ). was.0 ++ xs) split ∙ (sym (append_assoc was.0 part behind) ∙ ap (λ (xs : List ℕ). xs ++ behind) (sym was.2)));
+      whole = λ none. told.whole none ∙ (ap (λ (xs : List ℕ). whole_of held ++ xs) split ∙ (sym (append_assoc (whole_of held) part behind) ∙ ap (λ (xs : List ℕ). xs ++ behind) (whole_part held part)));
     }
 
 -- Characters were given.
 
 abbrev pub without_front : HeldView → (count room : ℕ) → HeldView
-without_front held count room = record held { known = drop count held.known; kept = kept_behind count held.kept; room = room }
+without_front held count room = record (given_on count held) { room = room }
 
--- where none were given what is kept is as it was
+-- where none were given the base stays
+passed_none : (given : ℕ) (mark : Option Mark) → (base_behind 0 given mark).passed ≡ 0
+passed_none given None = refl
+passed_none given (Some mark) = by_if (nat_lt mark.count 0) _ _ (λ past. absurd (omega (arith, ltb-true mark.count 0 past))) refl
+  where
+    by_if : (past : Bool) (one other : BaseMove) → (past ≡ true → one.passed ≡ 0) → other.passed ≡ 0 → (if past then one else other).passed ≡ 0
+    by_if true one other moves stays = moves refl
+    by_if false one other moves stays = stays
+
 pub given_none : (held : HeldView) (count room : ℕ) → count ≡ 0 → whole_of (without_front held count room) ≡ whole_of held
-given_none held count room none = ap (λ (n : ℕ). option_map (λ front. front ++ held.bytes) (kept_behind n held.kept)) none
+given_none held count room none = ap (λ (n : ℕ). drop (base_behind n held.given held.mark).passed held.back ++ held.bytes) none ∙ ap (λ (n : ℕ). drop n held.back ++ held.bytes) (passed_none held.given held.mark)
 
 given_characters : (given known behind : List ℕ) (count : ℕ) → given ++ (known ++ behind) ≡ (given ++ take count known) ++ (drop count known ++ behind)
 given_characters given known behind count =
@@ -134,5 +134,5 @@ knows_given settings bytes far at taken held count room within told =
       left = told.left ∙ ap (λ (cs : List ℕ). let all : Rest = record { characters = cs; refusal = rest.refusal } in all) (given_characters told.given held.known behind count);
       shows = λ more front. omega (arith, told.shows more front, sizes more);
       sound = λ more front none. told.sound more front none;
-      whole = λ none since is. told.whole (omega (arith, none)) since (sym (given_none held count room (omega (arith, none))) ∙ is);
+      whole = λ none. told.whole (omega (arith, none)) ∙ ap (λ (xs : List ℕ). xs ++ left_at bytes far) (sym (given_none held count room (omega (arith, none))));
     }

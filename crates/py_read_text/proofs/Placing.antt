@@ -64,7 +64,7 @@ text_cleared before after held at taken place room settings keeps owes far there
   far = far;
   forth = omega arith;
   few = omega arith;
-  whole = λ zero. record { since = []; kept = refl; reaches = omega (arith, there) };
+  whole = λ zero. omega (arith, there);
   told = λ told lives can.
       let by = is.reads_by (reading_still before after keeps can) in
       subst (λ (own : ℕ). KnowsTold settings (flat_of after).bytes own place 0 (cleared held place room)) there
@@ -101,7 +101,7 @@ text_called before after held at taken settings live keeps passes place flat is 
   far = omega (arith, place, is.far);
   forth = is.forth;
   few = is.few;
-  whole = λ none. let was = is.whole none in record { since = was.since; kept = was.kept; reaches = was.reaches ∙ sym place };
+  whole = λ none. is.whole none ∙ sym place;
   told = λ told lives can.
       let was : IsTrue (tells before.raw) = sym (tells_still before.raw after.raw keeps.raw) ∙ told in
       let knows = is.told was live (reading_still before after keeps can) in

@@ -1,5 +1,5 @@
 -- What a text knows of what is left of it: the characters and the bytes that it has in hand, and how they are tied to the bytes below.
-use Rattle.std.specs.Prelude.{◌≡◌, ◌⊎◌, ℕ, ◌+◌, ◌*◌, ◌-◌, ◌≤◌, ◌<◌, max, Bool, true, false, List, [], ◌++◌, length, Some, None}
+use Rattle.std.specs.Prelude.{◌≡◌, ◌⊎◌, ℕ, ◌+◌, ◌*◌, ◌-◌, ◌≤◌, ◌<◌, max, Bool, true, false, List, [], ◌++◌, length, None}
 use Rattle.py_flat.specs.declared.life.Life.TheVariants as life
 use Rattle.py_flat.specs.Limits.{greatest_place}
 use Rattle.py_flat.specs.Bytes.{left_at}
@@ -42,7 +42,7 @@ shown_file text = file_of (state_of text false)
 
 -- nothing in hand, at a byte from which nothing was decoded
 abbrev pub from_place : TextSettings → ℕ → HeldView
-from_place settings at = record { encoding = settings.encoding; handler = settings.handler; newline = settings.newline; known = []; cr = false; kept = Some []; bytes = []; place = at; order = Unknown; room = 0 }
+from_place settings at = record { encoding = settings.encoding; handler = settings.handler; newline = settings.newline; known = []; cr = false; back = []; given = 0; mark = None; bytes = []; place = at; order = Unknown; room = 0 }
 
 -- some characters before what is left
 abbrev pub with_given : List ℕ → Rest → Rest
@@ -51,7 +51,7 @@ with_given given rest = record { characters = given ++ rest.characters; refusal 
 -- told, of bytes of which those up to a place were taken: what is left from the text place on is the characters taken, and then what is
 -- left of what is in hand and comes behind it. And of every front of what comes behind: what the bytes taken and that front surely give
 -- is no more than the characters taken and what is surely left of what is in hand and that front, and no refused range stands in them
--- where none is left. No byte past the end was taken. Where no character was given, all bytes in hand are those that were taken
+-- where none is left. No byte past the end was taken. Where no character was given, all bytes from the base on are those that were taken
 pub record KnowsTold (settings : TextSettings) (bytes : List ℕ) (far at taken : ℕ) (held : HeldView) : Type 0 where
   pub given : List ℕ
   pub count : length given ≡ taken
@@ -59,7 +59,7 @@ pub record KnowsTold (settings : TextSettings) (bytes : List ℕ) (far at taken 
   pub left : left_with (from_place settings at) (left_at bytes at) ≡ with_given given (left_with held (left_at bytes far))
   pub shows : (more : List ℕ) → IsFrontOf more (left_at bytes far) → length (left_so_far (from_place settings at) (bytes_between bytes at far ++ more)).characters ≤ taken + length (left_so_far held more).characters
   pub sound : (more : List ℕ) → IsFrontOf more (left_at bytes far) → (left_so_far held more).refusal ≡ None → (left_so_far (from_place settings at) (bytes_between bytes at far ++ more)).refusal ≡ None
-  pub whole : taken ≡ 0 → (since : List ℕ) → whole_of held ≡ Some since → left_at bytes at ≡ since ++ left_at bytes far
+  pub whole : taken ≡ 0 → left_at bytes at ≡ whole_of held ++ left_at bytes far
 
 -- a text from which nothing was taken since it was placed
 pub record IsClean (text : TextView) : Type 0 where
@@ -80,15 +80,13 @@ pub record ReadsBy (settings : TextSettings) (held : HeldView) : Type 0 where
   pub handler : held.handler ≡ settings.handler
   pub newline : held.newline ≡ settings.newline
 
--- all bytes in hand, also those that were decoded, begin at a text place and reach to where the buffer stands
-pub record HasWhole (held : HeldView) (at far : ℕ) : Type 0 where
-  pub since : List ℕ
-  pub kept : whole_of held ≡ Some since
-  pub reaches : at + length since ≡ far
+-- all bytes from the base on, also those that were decoded, begin at a text place and reach to where the buffer stands
+abbrev pub HasWhole : HeldView → (at far : ℕ) → Type 0
+HasWhole held at far = at + length (whole_of held) ≡ far
 
 -- what holds of every text: what its buffer owes ends at the buffer's place, and once bytes were read it owes nothing; the bytes in hand
 -- are the last that were taken from the buffer, and no more characters were taken and are known than the bytes used since the text place
--- can give, six for each. While none was taken, all bytes since the text place are in hand
+-- can give, six for each. While none was taken, the base is the text place: all bytes since are in hand
 pub record IsText (buffer : Buffer) (held : HeldView) (at taken : ℕ) (settings : TextSettings) : Type 0 where
   pub reads_by : buffer.can.readable ≡ true → ReadsBy settings held
   pub asks : 0 < settings.chunk_size

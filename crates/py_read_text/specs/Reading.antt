@@ -1,5 +1,5 @@
 -- How a text reads: the steps of a call.
-use Rattle.std.specs.Prelude.{◌≡◌, ℕ, zero, ◌+◌, ◌*◌, ◌<◌, ◌≤◌, ◌≢◌, ◌⊎◌, ◌||◌, Bool, true, false, not, IsTrue, String, List, [], ◌++◌, length, take, drop, max, Option, Some, None, Result, Ok, Err, Vec, if◌then◌else◌, ◌-◌}
+use Rattle.std.specs.Prelude.{◌≡◌, ℕ, zero, ◌+◌, ◌*◌, ◌<◌, ◌≤◌, ◌≢◌, ◌⊎◌, ◌||◌, Bool, true, false, not, IsTrue, String, List, [], ◌++◌, length, take, max, Option, Some, None, Result, Ok, Err, Vec, if◌then◌else◌, ◌-◌}
 use Rattle.std.specs.declared.alloc.Global.{Global}
 use Rattle.py_flat.specs.declared.fault.IoFault.{IoFault}
 use Rattle.py_flat.specs.declared.fault.IoFault.TheVariants as fault
@@ -19,7 +19,7 @@ use Rattle.py_stream.specs.Writing.{OwesUpTo}
 use Rattle.py_stream.specs.Buffer.{Buffer, WhereShown, flat_of, KeepsBuffer, IsClosedWithRaw}
 use Rattle.py_held_text.specs.declared.wanted.Wanted.{Wanted}
 use Rattle.py_held_text.specs.declared.wanted.Wanted.TheVariants.{Characters, Line}
-use Rattle.py_held_text.specs.Held.{HeldView, cleared, ahead, kept_behind, whole_of, left_with, left_so_far}
+use Rattle.py_held_text.specs.Held.{HeldView, cleared, ahead, given_on, whole_of, left_with, left_so_far}
 use Rattle.py_held_text.specs.Decodes.{KeepsSettings, known_with_cr, IsDrained}
 use Rattle.py_held_text.specs.Finding as held_front
 use Rattle.py_held_text.specs.Finding.{enough, enough_before}
@@ -47,7 +47,7 @@ call_of (Characters size) = Read size
 call_of (Line limit) = ReadLine limit
 
 -- What is in hand was looked at: more of it may be known, and what is left is as it was, whatever comes behind it, of which `Behind` says
--- what that may be; nothing that was surely left is so no more. Where bytes are kept all are
+-- what that may be; nothing that was surely left is so no more. All bytes from the base on are as they were
 pub record Follows (Behind : List ℕ → Type 0) (old new : HeldView) : Type 0 where
   pub settings : KeepsSettings old new
   pub stands : new.place + length new.bytes ≡ old.place + length old.bytes
@@ -273,7 +273,7 @@ pub record Gathers (old : TextView) (asked : Wanted) (new : TextView) : Type 0 w
 
 -- the first of the known characters are given and taken
 abbrev pub GiveOutcome : TextView → ℕ → Bool → Result (String Global) IoFault → TextView → Type 0
-GiveOutcome old count asks (Ok text) new = (text_of text ≡ take count old.held.known) × (new ≡ record old { held = record old.held { known = drop count old.held.known; kept = kept_behind count old.held.kept; room = new.held.room }; taken = old.taken + count; dirty = old.dirty || asks })
+GiveOutcome old count asks (Ok text) new = (text_of text ≡ take count old.held.known) × (new ≡ record old { held = record (given_on count old.held) { room = new.held.room }; taken = old.taken + count; dirty = old.dirty || asks })
 GiveOutcome old count asks (Err why) new = (why ≡ fault.NoMemory) × (new ≡ old)
 
 -- all known characters are given, and the text stands clean at the end

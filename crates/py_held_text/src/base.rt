@@ -1,0 +1,75 @@
+ghost use Rattle.std.specs.Prelude.{◌≡◌, ◌+◌, ◌^◌, ◌<◌};
+ghost use Rattle.py_held_text.specs.Held.{comes_next, mark_by, base_behind};
+
+/// A place behind the base, between two items, which is the base once a character behind it was given.
+#[derive(Clone, Copy, Debug, PartialEq, Eq)]
+pub struct Mark {
+    /// How many of the known characters stand before it.
+    pub count: usize,
+    /// How many of the bytes that were decoded since the base stand before it.
+    pub passed: usize,
+}
+
+/// Where the base stands once characters were given.
+#[derive(Clone, Copy, Debug, PartialEq, Eq)]
+pub struct BaseMove {
+    /// How many bytes it moved on.
+    pub passed: usize,
+    /// How many characters were given since it.
+    pub given: u128,
+    /// The mark that stands behind it.
+    pub mark: Option<Mark>,
+}
+
+/// Whether the next character stands behind a mark.
+fn comes_next(mark: Option<Mark>) -> bool
+    ensures { result ≡ comes_next mark }
+{
+    match mark {
+        Some(mark) => mark.count == 0,
+        None => false,
+    }
+}
+
+/// The mark once more is decoded, where so many characters are known and so many bytes stand between the base and here; `cr` says
+/// that a CR is held.
+pub(crate) fn next_mark(mark: Option<Mark>, cr: bool, count: usize, passed: usize) -> Option<Mark>
+    ensures { result ≡ mark_by mark cr count passed }
+{
+    if cr || passed == 0 || comes_next(mark) {
+        return mark;
+    }
+    Some(Mark { count, passed })
+}
+
+/// Where the base stands once so many characters more were given.
+pub(crate) fn base_behind(count: usize, given: u128, mark: Option<Mark>) -> BaseMove
+    requires { given + count < 2 ^ 128 }
+    ensures { result ≡ base_behind count given mark }
+{
+    match mark {
+        Some(mark) => {
+            if mark.count < count {
+                return BaseMove {
+                    passed: mark.passed,
+                    given: (count - mark.count) as u128,
+                    mark: None,
+                };
+            }
+            let rest = Mark {
+                count: mark.count - count,
+                ..mark
+            };
+            BaseMove {
+                passed: 0,
+                given: given + count as u128,
+                mark: Some(rest),
+            }
+        }
+        None => BaseMove {
+            passed: 0,
+            given: given + count as u128,
+            mark: None,
+        },
+    }
+}
