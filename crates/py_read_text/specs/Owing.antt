@@ -123,10 +123,18 @@ pub record StaysAsItWas (before after : TextOver Buffer) : Type 0 where
   pub settings : after.settings ≡ before.settings
   pub place : after.place ≡ before.place
 
--- running out of memory fails a text only in a call that has bytes of its own to hand on, and only once the raw took some of them and the
--- buffer failed, or where the buffer took all and was to be flushed behind them; else it leaves the text as it was
+-- running out of memory failed a text: its raw takes memory, the call had bytes of the text's own to hand on, and some of them went on
+pub record FailsStarved (before : TextOver Buffer) (call : TextFileCall) (after : TextOver Buffer) : Type 0 where
+  pub life_is : after.life ≡ life.Failed
+  pub takes : IsTrue before.buffer.raw.takes_memory
+  pub has : HasOwn before call
+  pub gave : GaveOwn (flushes_behind before.settings call) before after
+
+-- running out of memory fails a text only over a raw that takes memory, in a call that has bytes of its own to hand on, and only once the
+-- raw took some of them and the buffer failed, or where the buffer took all and was to be flushed behind them; else it leaves the text as it
+-- was
 abbrev pub Starves : TextOver Buffer → TextFileCall → FileReply → TextOver Buffer → Type 0
-Starves before call (Refused fault.NoMemory) after = StaysAsItWas before after ⊎ ((after.life ≡ life.Failed) × HasOwn before call × GaveOwn (flushes_behind before.settings call) before after)
+Starves before call (Refused fault.NoMemory) after = StaysAsItWas before after ⊎ FailsStarved before call after
 Starves before call reply after = Unit {0}
 
 -- A wait.

@@ -69,7 +69,8 @@ life_refused writes fault.RawFault before after moves = moves
 life_refused writes why before after moves = moves
 
 starves_refused : (before after : TextOver Buffer) (why : IoFault) → Starves before Flush (Refused why) after → Starves before Detach (Refused why) after
-starves_refused before after fault.NoMemory starves = starves
+starves_refused before after fault.NoMemory (inl stays) = inl stays
+starves_refused before after fault.NoMemory (inr failed) = inr (record { life_is = failed.life_is; takes = failed.takes; has = failed.has; gave = failed.gave })
 starves_refused before after why starves = tt
 
 reply_refused : (writes : Bool) (why : IoFault) → IsReplyTo writes Flush (Refused why) → IsReplyTo writes Detach (Refused why)

@@ -130,7 +130,7 @@ gave_behind old mid flushes new hands none gave = by_gave gave
 
 starves_behind : (old mid : WrittenView) (call : TextFileCall) (reply : FileReply) (new : TextOver Buffer) → HandsOn old false false mid → old.pending ≢ [] → mid.pending ≡ [] → mid.life ≡ old.life → Starves (over_of mid) call reply new → Starves (over_of old) call reply new
 starves_behind old mid call (Refused fault.NoMemory) new hands owes none current (inl stays) = inl (record { life_is = stays.life_is ∙ current; settings = stays.settings ∙ hands.settings; place = stays.place ∙ hands.place })
-starves_behind old mid call (Refused fault.NoMemory) new hands owes none current (inr failed) = inr (failed.0, has_own (over_of old) call owes, subst (λ (settings : TextSettings). GaveOwn (flushes_behind settings call) (over_of old) new) hands.settings (gave_behind old mid (flushes_behind mid.text.settings call) new hands none failed.2))
+starves_behind old mid call (Refused fault.NoMemory) new hands owes none current (inr failed) = inr (record { life_is = failed.life_is; takes = sym hands.calls.keeps.raw.takes_memory ∙ failed.takes; has = has_own (over_of old) call owes; gave = subst (λ (settings : TextSettings). GaveOwn (flushes_behind settings call) (over_of old) new) hands.settings (gave_behind old mid (flushes_behind mid.text.settings call) new hands none failed.gave) })
 starves_behind old mid call reply new hands owes none current starves = tt
 
 -- a text doesn't stand before where what it owes its buffer begins

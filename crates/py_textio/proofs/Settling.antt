@@ -1,5 +1,5 @@
 -- What is owed is handed on, and the text stays as it is.
-use Rattle.std.proofs.Common.{◌≡◌, ◌≢◌, ℕ, ◌+◌, ◌-◌, ◌<◌, ◌≤◌, inl, inr, ◌⊎◌, nat_eq, ◌&&◌, Bool, true, false, List, [], ◌∷◌, ◌++◌, length, take, drop, Option, None, Some, Result, Ok, Err, refl, sym, ap, ◌∙◌, subst, arith, append-nil}
+use Rattle.std.proofs.Common.{◌≡◌, ◌≢◌, ℕ, ◌+◌, ◌-◌, ◌<◌, ◌≤◌, inl, inr, ◌⊎◌, nat_eq, ◌&&◌, Bool, true, false, IsTrue, List, [], ◌∷◌, ◌++◌, length, take, drop, Option, None, Some, Result, Ok, Err, refl, sym, ap, ◌∙◌, subst, arith, append-nil}
 use Rattle.std.proofs.lemmas.List.{length-drop, drop_all, length-append}
 use Rattle.py_flat.specs.declared.fault.IoFault.{IoFault}
 use Rattle.py_flat.specs.declared.fault.IoFault.TheVariants as fault
@@ -441,6 +441,7 @@ passed_failed now old new pending room more count before after flushes fault.NoM
       failed,
       flushed,
       none,
+      subst (λ (view : WrittenView). IsTrue view.text.buffer.raw.takes_memory) same (answers.wants refl refl),
     )
 passed_failed now old new pending room more count before after flushes other same is live owes flushed place answers calm failed = absurd (answers.answer (accepts_flush old.buffer (is.lives (ap (λ (view : WrittenView). view.life) same ∙ live)) is.kept))
 
@@ -470,7 +471,7 @@ passed_behind old mid new count flushes (Err (fault.WouldBlock taken)) was is ha
 passed_behind old mid new count flushes (Err fault.RawFault) was is hands outcome some = (hands_on old mid new false true was is hands outcome.0, outcome.1)
 passed_behind old mid new count flushes (Err fault.NoMemory) was is hands outcome some =
     let on = hands_on old mid new false false was is hands outcome.0 in
-    inl (on, outcome.1, some outcome.2, inr (outcome.2, record { further = went_on old new (some outcome.2) on.place outcome.3; none = outcome.3 }))
+    inl (on, outcome.1, some outcome.2, inr (outcome.2, record { further = went_on old new (some outcome.2) on.place outcome.3; none = outcome.3 }), sym hands.calls.keeps.raw.takes_memory ∙ outcome.4)
 passed_behind old mid new count flushes (Err other) was is hands outcome some = absurd outcome
 
 -- what is owed couldn't be handed on, and the text isn't as it was
@@ -481,7 +482,7 @@ handed_not old new count flushes fault.NoMemory some outcome failed = by_life ou
   where
     by_life : TakesNothing old new ⊎ ((new.life ≡ life.Failed) × (old.text.buffer.can.writable ≡ true) × FailedWithOwn (over_of old) (over_of new)) → HandOutcome old count flushes (Err fault.NoMemory) new
     by_life (inl nothing) = absurd (failed refl nothing.lives)
-    by_life (inr gave) = inl (outcome.0, gave.0, some, inl gave.2)
+    by_life (inr gave) = inl (outcome.0, gave.0, some, inl gave.2, outcome.1)
 handed_not old new count flushes other some outcome failed = absurd outcome
 
 -- the buffer took nothing for want of memory, and the last bytes are let go of

@@ -151,13 +151,13 @@ read_fails old new asked owes can some hands there failed joined =
     answers_work old (call_of asked) (Refused fault.RawFault) new false (ends_work old (call_of asked) (Refused fault.RawFault) new false owes (fault_ends asked some) (accepts (file_now old) asked owes.live can) hands there (λ is. absurd (cc)) (failed_life asked old.life new.life failed) joined tt (wants_nothing asked (Refused fault.RawFault) old.text.buffer)
     (λ told. faults_step (file_now old) (file_now new) asked owes.live can failed (hands.bytes told) hands.calls.keeps.can hands.settings))
 
-pub read_starves : (old new : WrittenView) (asked : Wanted) → Owes old → old.text.buffer.can.readable ≡ true → asks_none asked ≡ false → HandsOn old false false new → new.text.at ≡ new.text.buffer.place → (new.life ≡ life.Live) ⊎ ((new.life ≡ life.Failed) × FailedWithOwn (over_of old) (over_of new)) → IsJoined (over_of new) → Answers (state_of old false) (call_of asked) (Refused fault.NoMemory) (state_of new false)
-read_starves old new asked owes can some hands there (inl lives) joined =
+pub read_starves : (old new : WrittenView) (asked : Wanted) → Owes old → old.text.buffer.can.readable ≡ true → asks_none asked ≡ false → HandsOn old false false new → new.text.at ≡ new.text.buffer.place → IsTrue old.text.buffer.raw.takes_memory → (new.life ≡ life.Live) ⊎ ((new.life ≡ life.Failed) × FailedWithOwn (over_of old) (over_of new)) → IsJoined (over_of new) → Answers (state_of old false) (call_of asked) (Refused fault.NoMemory) (state_of new false)
+read_starves old new asked owes can some hands there takes (inl lives) joined =
     let current : new.life ≡ old.life = lives ∙ sym owes.live in
     answers_work old (call_of asked) (Refused fault.NoMemory) new false (ends_work old (call_of asked) (Refused fault.NoMemory) new false owes (memory_ends asked some) (accepts (file_now old) asked owes.live can) hands there (λ is. absurd (cc)) (inl current) joined (starved_not old new (call_of asked) hands current) (wants_nothing asked (Refused fault.NoMemory) old.text.buffer)
     (λ told. starves_step (file_now old) (file_now new) asked owes.live can (handed_file old new false false hands current told)))
-read_starves old new asked owes can some hands there (inr failed) joined =
-    answers_work old (call_of asked) (Refused fault.NoMemory) new false (ends_work old (call_of asked) (Refused fault.NoMemory) new false owes (memory_ends asked some) (accepts (file_now old) asked owes.live can) hands there (λ is. absurd (cc)) (inr (refl, failed.0)) joined (inr (failed.0, has_own (over_of old) (call_of asked) owes.some, inl failed.1)) (wants_nothing asked (Refused fault.NoMemory) old.text.buffer)
+read_starves old new asked owes can some hands there takes (inr failed) joined =
+    answers_work old (call_of asked) (Refused fault.NoMemory) new false (ends_work old (call_of asked) (Refused fault.NoMemory) new false owes (memory_ends asked some) (accepts (file_now old) asked owes.live can) hands there (λ is. absurd (cc)) (inr (refl, failed.0)) joined (inr (record { life_is = failed.0; takes = takes; has = has_own (over_of old) (call_of asked) owes.some; gave = inl failed.1 })) (wants_nothing asked (Refused fault.NoMemory) old.text.buffer)
     (λ told. midway_read (file_now old) (file_now new) asked owes.live can owes.writes (fails_still (file_now old) (file_now new) life.Failed failed.0 (hands.bytes told) hands.calls.keeps.can hands.settings)))
 
 -- Flushing and closing.
@@ -211,7 +211,7 @@ passing_starved old new closes owes hands there takes (inl lives) joined =
     answers_work old (Passing closes) (Refused fault.NoMemory) new false (ends_work old (Passing closes) (Refused fault.NoMemory) new false owes (passing_starves closes) (passes_accepted (file_now old) closes owes.live) hands there (λ is. absurd (cc)) (inl current) joined (starved_not old new (Passing closes) hands current) (wants_raw closes old.text.buffer takes)
     (λ told. starve_step (file_now old) (file_now new) closes owes.live (inl (handed_file old new false false hands current told))))
 passing_starved old new closes owes hands there takes (inr failed) joined =
-    answers_work old (Passing closes) (Refused fault.NoMemory) new false (ends_work old (Passing closes) (Refused fault.NoMemory) new false owes (passing_starves closes) (passes_accepted (file_now old) closes owes.live) hands there (λ is. absurd (cc)) (inr (refl, failed.0)) joined (inr (failed.0, has_own (over_of old) (Passing closes) owes.some, inl failed.1)) (wants_raw closes old.text.buffer takes)
+    answers_work old (Passing closes) (Refused fault.NoMemory) new false (ends_work old (Passing closes) (Refused fault.NoMemory) new false owes (passing_starves closes) (passes_accepted (file_now old) closes owes.live) hands there (λ is. absurd (cc)) (inr (refl, failed.0)) joined (inr (record { life_is = failed.0; takes = takes; has = has_own (over_of old) (Passing closes) owes.some; gave = inl failed.1 })) (wants_raw closes old.text.buffer takes)
     (λ told. starve_step (file_now old) (file_now new) closes owes.live (inr (owes.writes, fails_still (file_now old) (file_now new) life.Failed failed.0 (hands.bytes told) hands.calls.keeps.can hands.settings))))
 
 -- By what stopped the handing on.
@@ -226,7 +226,7 @@ closed_of view = record view { life = life.Closed }
 pub read_stops : (old new : WrittenView) (asked : Wanted) (why : IoFault) → Owes old → old.text.buffer.can.readable ≡ true → asks_none asked ≡ false → new.text.at ≡ new.text.buffer.place → SettleOutcome old (Err why) new → IsJoined (over_of new) → Answers (state_of old false) (call_of asked) (stopped_reply why) (state_of new (says_wait (Refused why)))
 read_stops old new asked (fault.WouldBlock taken) owes can some there outcome joined = read_waits old new asked owes can some outcome.0 there (outcome.1, outcome.4) outcome.2 joined
 read_stops old new asked fault.RawFault owes can some there outcome joined = read_fails old new asked owes can some outcome.0 there outcome.1 joined
-read_stops old new asked fault.NoMemory owes can some there outcome joined = read_starves old new asked owes can some outcome.0 there (starved_life old new outcome.2) joined
+read_stops old new asked fault.NoMemory owes can some there outcome joined = read_starves old new asked owes can some outcome.0 there outcome.1 (starved_life old new outcome.2) joined
 read_stops old new asked other owes can some there outcome joined = absurd outcome
 
 pub passing_stops : (old new : WrittenView) (closes : Bool) (why : IoFault) → Owes old → (closes ≡ true → says_fault (Refused why) ≡ false) → new.text.at ≡ new.text.buffer.place → SettleOutcome old (Err why) new → IsJoined (over_of new) → Answers (state_of old false) (Passing closes) (Refused (with_taken why 0)) (state_of new (says_wait (Refused (with_taken why 0))))

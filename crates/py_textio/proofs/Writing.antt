@@ -217,8 +217,8 @@ wrote_failed old new text may took failed joined =
     whole_fails : (old new : WrittenView) (bytes : List ℕ) (current : Life) → new.life ≡ current → (file_now new).bytes ≡ lay (file_now old).bytes (place_now old).at bytes → new.text.buffer.can ≡ old.text.buffer.can → new.text.settings ≡ old.text.settings → Fails (file_now old) current (lay (file_now old).bytes (place_now old).at (take (length bytes) bytes)) (file_now new)
     whole_fails old new bytes current is laid can settings = record { life_is = is; bytes_are = laid ∙ ap (lay (file_now old).bytes (place_now old).at) (sym (take_all (length bytes) bytes (omega arith))); can = can; settings = settings }
 
-pub wrote_starved : (old new : WrittenView) (text : List ℕ) → MayWrite old text → TookText old (own_bytes old text) false false new → new.life ≡ life.Failed → HasOwn (over_of old) (WriteText text) → GaveOwn (flushes_behind old.text.settings (WriteText text)) (over_of old) (over_of new) → IsJoined (over_of new) → Answers (state_of old false) (WriteText text) (Refused fault.NoMemory) (state_of new false)
-wrote_starved old new text may took failed has gave joined =
+pub wrote_starved : (old new : WrittenView) (text : List ℕ) → MayWrite old text → TookText old (own_bytes old text) false false new → new.life ≡ life.Failed → HasOwn (over_of old) (WriteText text) → GaveOwn (flushes_behind old.text.settings (WriteText text)) (over_of old) (over_of new) → IsTrue old.text.buffer.raw.takes_memory → IsJoined (over_of new) → Answers (state_of old false) (WriteText text) (Refused fault.NoMemory) (state_of new false)
+wrote_starved old new text may took failed has gave takes joined =
     let bytes : List ℕ = own_bytes old text in
     answers_work old (WriteText text) (Refused fault.NoMemory) new false (record {
       accepted = may.accepted;
@@ -236,7 +236,7 @@ wrote_starved old new text may took failed has gave joined =
       joined = joined;
       owes = owes_took old new text false false took;
       lays = took.lays;
-      starves = inr (failed, has, gave);
+      starves = inr (record { life_is = failed; takes = takes; has = has; gave = gave });
       closes = tt;
       stays = λ is. took.stays;
       unclosed = owing_open old.text.buffer (over_of new) took.stays;
@@ -474,7 +474,7 @@ written_on old mid new text room count (fault.WouldBlock taken) may back counts 
 written_on old mid new text room count fault.RawFault may back counts outcome joined =
     wrote_failed old new text may (put_then old mid new (own_bytes old text) room false true back outcome.0) outcome.1 joined
 written_on old mid new text room count fault.NoMemory may back counts (inl outcome) joined =
-    wrote_starved old new text may (put_then old mid new (own_bytes old text) room false false back outcome.0) outcome.1 (λ none. outcome.2 (ap (λ (owed : List ℕ). owed ++ own_bytes old text) back.pending ∙ none)) (gave_put old mid (own_bytes old text) room (old.text.settings.line_buffering && has_line_end text) (over_of new) back outcome.3) joined
+    wrote_starved old new text may (put_then old mid new (own_bytes old text) room false false back outcome.0) outcome.1 (λ none. outcome.2 (ap (λ (owed : List ℕ). owed ++ own_bytes old text) back.pending ∙ none)) (gave_put old mid (own_bytes old text) room (old.text.settings.line_buffering && has_line_end text) (over_of new) back outcome.3) (sym back.hands.calls.keeps.raw.takes_memory ∙ outcome.4) joined
 written_on old mid new text room count fault.NoMemory may back counts (inr lets) joined =
     unwritten_starved old new text may (let_go_so old mid new (own_bytes old text) room count back counts lets) lets.lives joined
 written_on old mid new text room count other may back counts outcome joined = absurd outcome

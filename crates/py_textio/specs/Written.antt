@@ -181,7 +181,7 @@ abbrev pub PassOutcome : WrittenView → (count : ℕ) → (flushes : Bool) → 
 PassOutcome old count flushes (Ok done) new = HandsOn old false false new × (new.life ≡ life.Live) × KeepsFew (state_of new false) × (flushes ≡ true → IsPassedOn (state_of new false))
 PassOutcome old count flushes (Err (fault.WouldBlock taken)) new = HandsOn old true false new × (new.life ≡ life.Live) × (taken ≡ count) × StopsOwing false (over_of new)
 PassOutcome old count flushes (Err fault.RawFault) new = HandsOn old false true new × (new.life ≡ life.Failed)
-PassOutcome old count flushes (Err fault.NoMemory) new = HandsOn old false false new × (new.life ≡ life.Failed) × (flushes ≡ true) × (new.pending ≡ [])
+PassOutcome old count flushes (Err fault.NoMemory) new = HandsOn old false false new × (new.life ≡ life.Failed) × (flushes ≡ true) × (new.pending ≡ []) × IsTrue old.text.buffer.raw.takes_memory
 PassOutcome old count flushes (Err other) new = ⊥
 
 -- what is owed is handed on where it has to be, and passed on by the buffer where it is to; where memory ran out the text failed, or the n
@@ -190,7 +190,7 @@ abbrev pub HandOutcome : WrittenView → (count : ℕ) → (flushes : Bool) → 
 HandOutcome old count flushes (Ok done) new = HandsOn old false false new × (new.life ≡ life.Live) × KeepsFew (state_of new false) × (flushes ≡ true → IsPassedOn (state_of new false))
 HandOutcome old count flushes (Err (fault.WouldBlock taken)) new = HandsOn old true false new × (new.life ≡ life.Live) × (taken ≡ count) × StopsOwing false (over_of new)
 HandOutcome old count flushes (Err fault.RawFault) new = HandsOn old false true new × (new.life ≡ life.Failed)
-HandOutcome old count flushes (Err fault.NoMemory) new = (HandsOn old false false new × (new.life ≡ life.Failed) × (old.pending ≢ []) × GaveOwn flushes (over_of old) (over_of new)) ⊎ LetsGo old count new
+HandOutcome old count flushes (Err fault.NoMemory) new = (HandsOn old false false new × (new.life ≡ life.Failed) × (old.pending ≢ []) × GaveOwn flushes (over_of old) (over_of new) × IsTrue old.text.buffer.raw.takes_memory) ⊎ LetsGo old count new
 HandOutcome old count flushes (Err other) new = ⊥
 
 -- nothing is handed on that needn't be: without write through, of less than a chunk, and where no flush is to follow all is as it was
