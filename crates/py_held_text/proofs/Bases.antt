@@ -200,6 +200,7 @@ mark-shows-decoded Behind old new behind decodes marked =
   where
     same : SameBase old new
     same = same-decoded false old new decodes
+
     kept : (mark : Option Mark) → IfSome mark (MarkShows Behind old) → IfSome mark (MarkShows Behind new)
     kept None own = tt
     kept (Some mark) own = λ more may. so-far-same old new mark.passed same more ∙ (own more may ∙ ap (without mark.count) (sym (decodes.so_far refl more)))
@@ -329,6 +330,7 @@ given-so Behind held gone count room within behind is marked = by-mark held.mark
       base = base-stays Behind held gone count room (Some (nearer count mark)) within is;
       mark = mark-stays Behind held count room mark within (ltb-false mark.count count is_past) own;
     }
+
     by-mark : (mark : Option Mark) → IfSome mark (MarkStands Behind held) → GivenOn Behind (gave count (base_behind count held.given mark) room held)
     by-mark None own = record { gone = gone ++ take count held.known; back = behind; base = base-stays Behind held gone count room None within is; mark = tt }
     by-mark (Some mark) own = by-count mark (nat_lt mark.count count) refl own
@@ -348,6 +350,7 @@ given-shows Behind held gone count room within behind passed is marked = by-mark
       base = shows-stays Behind held gone count room (Some (nearer count mark)) is;
       mark = mark-shows-stays Behind held count room mark within (ltb-false mark.count count is_past) own;
     }
+
     by-mark : (mark : Option Mark) → IfSome mark (λ own. own.passed ≤ length held.back) → IfSome mark (MarkShows Behind held) → ShownOn Behind (gave count (base_behind count held.given mark) room held)
     by-mark None fits own = record { gone = gone ++ take count held.known; base = shows-stays Behind held gone count room None is; mark = tt }
     by-mark (Some mark) fits own = by-count mark (nat_lt mark.count count) refl fits own
