@@ -24,13 +24,14 @@ use Rattle.py_held_text.specs.Decodes.{IsDrained}
 use Rattle.py_held_text.specs.Finding.{answer_of, enough, enough_before}
 use Rattle.py_read_text.specs.declared.read_text.Answer.TheVariants as answer
 use Rattle.py_read_text.specs.Waiting.{bytes_between, ShowsAll}
-use Rattle.py_read_text.specs.Answers.{IsReplyTo, PlaceMoves, BlamesTaken, TextBlames}
+use Rattle.py_read_text.specs.Answers.{IsReplyTo, PlaceMoves, BlamesTaken, ReadsOneLine, TextBlames}
 use Rattle.py_read_text.specs.Knowing.{TextView, place_of, shown_file, from_place, KnowsTold, IsText}
 use Rattle.py_read_text.specs.Reading.{call_of, size_of, asks_all, ComesLast, RefusesAt, RangeInHand, IsAtEnd, HoldsNothing, GiveOutcome, GiveAllOutcome, Finishes}
 use Rattle.py_read_text.proofs.Following.{all_none, so_far_empty}
 use Rattle.py_read_text.proofs.Ranges.{asks_past_range}
 use Rattle.py_read_text.proofs.Knowing.{knows_given, without_front}
 use Rattle.py_read_text.proofs.Enough.{is_enough, is_short, is_before}
+use Rattle.py_read_text.proofs.OneLine.{reads_one}
 use Rattle.py_read_text.proofs.Steps.{Tied, step_enough, step_before, step_refuses, step_last, step_all, step_waits, step_unready, enough_sized, before_sized}
 
 -- what holds of every text, of one as it is seen
@@ -75,10 +76,10 @@ gave_place old new count asks text within gave =
     ap place_of gave.1 ∙ ap (λ (n : ℕ). place_taking (place_of old) n asks) (sym size)
 
 -- a whole answer of a front of the known characters
-whole_of : (old new : TextView) (asked : Wanted) (count : ℕ) (text : String Global) → asks_all asked ≡ false → count ≤ length old.held.known → IfSome (size_of asked) (λ size. count ≤ size) → GiveOutcome old count (asks_any (size_of asked)) (Ok text) new
+whole_of : (old new : TextView) (asked : Wanted) (count : ℕ) (text : String Global) → asks_all asked ≡ false → count ≤ length old.held.known → IfSome (size_of asked) (λ size. count ≤ size) → ReadsOneLine old.settings.newline (call_of asked) (Text (take count old.held.known)) → GiveOutcome old count (asks_any (size_of asked)) (Ok text) new
     → WhereShown old.buffer (TextFileStep (shown_file old) (call_of asked) (Text (take count old.held.known)) false false (after_taking (shown_file old) count (asks_any (size_of asked))))
     → Finishes old asked (Ok (answer.Whole text)) new
-whole_of old new asked count text sized within fits gave step =
+whole_of old new asked count text sized within fits one gave step =
     let size : length (text_of text) ≡ count = ap length gave.0 ∙ length-take-le count old.held.known within in
     record {
       buffer = ap (λ (view : TextView). view.buffer) gave.1;
@@ -87,21 +88,22 @@ whole_of old new asked count text sized within fits gave step =
       shorts = refl;
       sound = refl;
       place = moves_whole asked (place_of old) (place_of new) old.buffer.place (text_of text) sized (subst (λ (n : ℕ). IfSome (size_of asked) (λ most. n ≤ most)) (sym size) fits) (gave_place old new count (asks_any (size_of asked)) text within gave);
+      lines = subst (λ (cs : List ℕ). ReadsOneLine old.settings.newline (call_of asked) (Text cs)) (sym gave.0) one;
       blames = blames_none asked (text_of text) (place_of old) old.buffer.place;
       told = λ told. subst (λ (cs : List ℕ). TextFileStep (shown_file old) (call_of asked) (Text cs) false false (shown_file new)) (sym gave.0)
           (subst (TextFileStep (shown_file old) (call_of asked) (Text (take count old.held.known)) false false) (sym (gave_file old new count (asks_any (size_of asked)) text gave)) (step told));
       hides = λ waits. absurd (cc);
     }
 
-pub finishes_enough : (old new : TextView) (asked : Wanted) (count : ℕ) (text : String Global) → WhereShown old.buffer (Tied old) → enough asked old.held.newline old.held.known ≡ Some count → GiveOutcome old count (asks_any (size_of asked)) (Ok text) new → Finishes old asked (Ok (answer.Whole text)) new
-finishes_enough old new asked count text tied is gave =
+pub finishes_enough : (old new : TextView) (asked : Wanted) (count : ℕ) (text : String Global) → old.held.newline ≡ old.settings.newline → WhereShown old.buffer (Tied old) → enough asked old.held.newline old.held.known ≡ Some count → GiveOutcome old count (asks_any (size_of asked)) (Ok text) new → Finishes old asked (Ok (answer.Whole text)) new
+finishes_enough old new asked count text rule tied is gave =
     let ready = is_enough asked old.held.newline old.held.known count is in
-    whole_of old new asked count text (enough_sized asked old.held.newline old.held.known count is) ready.within ready.size gave (λ told. step_enough old asked count (tied told) is)
+    whole_of old new asked count text (enough_sized asked old.held.newline old.held.known count is) ready.within ready.size (reads_one asked old.held.newline old.settings.newline (old.held.known ++ []) (take count old.held.known) rule (ready.answer [])) gave (λ told. step_enough old asked count (tied told) is)
 
-pub finishes_before : (old new : TextView) (asked : Wanted) (count : ℕ) (text : String Global) → WhereShown old.buffer (Tied old) → enough_before asked old.held.newline old.held.known ≡ Some count → WhereShown old.buffer ((range : ℕ × ℕ) × ComesLast old (Some range)) → GiveOutcome old count (asks_any (size_of asked)) (Ok text) new → Finishes old asked (Ok (answer.Whole text)) new
-finishes_before old new asked count text tied is last gave =
+pub finishes_before : (old new : TextView) (asked : Wanted) (count : ℕ) (text : String Global) → old.held.newline ≡ old.settings.newline → WhereShown old.buffer (Tied old) → enough_before asked old.held.newline old.held.known ≡ Some count → WhereShown old.buffer ((range : ℕ × ℕ) × ComesLast old (Some range)) → GiveOutcome old count (asks_any (size_of asked)) (Ok text) new → Finishes old asked (Ok (answer.Whole text)) new
+finishes_before old new asked count text rule tied is last gave =
     let ready = is_before asked old.held.newline old.held.known count is in
-    whole_of old new asked count text (before_sized asked old.held.newline old.held.known count is) ready.within ready.size gave (λ told. step_before old asked count (Some (last told).0) (tied told) (last told).1 is)
+    whole_of old new asked count text (before_sized asked old.held.newline old.held.known count is) ready.within ready.size (reads_one asked old.held.newline old.settings.newline old.held.known (take count old.held.known) rule ready.answer) gave (λ told. step_before old asked count (Some (last told).0) (tied told) (last told).1 is)
 
 refuses_text : (asked : Wanted) (start end : ℕ) (writes : Bool) → IsReplyTo writes (call_of asked) (Refused (fault.UnicodeDecodeError start end))
 refuses_text (Characters size) start end writes = tt
@@ -116,6 +118,10 @@ blames_taken : (asked : Wanted) (start end : ℕ) (place : TextPlace) (far : ℕ
 blames_taken (Characters size) start end place far taken = taken
 blames_taken (Line limit) start end place far taken = taken
 
+refused_lines : (asked : Wanted) (start end : ℕ) (newline : _) → ReadsOneLine newline (call_of asked) (Refused (fault.UnicodeDecodeError start end))
+refused_lines (Characters size) start end newline = tt
+refused_lines (Line limit) start end newline = tt
+
 -- a refused range that the answer would pass
 pub finishes_refused : (text : TextView) (asked : Wanted) (start end : ℕ) → Holds text → WhereShown text.buffer (Tied text) → RangeInHand text start end → enough_before asked text.held.newline text.held.known ≡ None → WhereShown text.buffer (ComesLast text (Some (start, end))) → Finishes text asked (Err (fault.UnicodeDecodeError start end)) text
 finishes_refused text asked start end holds tied range is last = record {
@@ -125,6 +131,7 @@ finishes_refused text asked start end holds tied range is last = record {
   shorts = refl;
   sound = refl;
   place = stays_refused asked start end (place_of text) text.buffer.place;
+  lines = refused_lines asked start end text.settings.newline;
   blames = blames_taken asked start end (place_of text) text.buffer.place (record { asks = asks_past_range asked text.held.newline text.held.known is; forth = omega (arith, holds.forth, range.forth); some = range.some; within = omega (arith, holds.stands, range.within) });
   told = λ told. step_refuses text asked start end (tied told) (last told) is;
   hides = λ waits. absurd (cc);
@@ -160,9 +167,9 @@ fits_answer (Characters (Some size)) rule known count within is = omega (arith, 
 fits_answer (Line None) rule known count within is = tt
 fits_answer (Line (Some limit)) rule known count within is = omega (arith, ap length is, length-take-le count known within, length-take limit (line_after (line_end rule) false known))
 
-pub finishes_last : (old new : TextView) (asked : Wanted) (count : ℕ) (text : String Global) → WhereShown old.buffer (Tied old) → old.held.bytes ≡ [] → old.held.cr ≡ false → IsAtEnd old.buffer → asks_all asked ≡ false → count ≤ length old.held.known → take count old.held.known ≡ answer_of asked old.held.newline old.held.known → GiveOutcome old count (asks_any (size_of asked)) (Ok text) new → Finishes old asked (Ok (answer.Whole text)) new
-finishes_last old new asked count text tied none whole end sized within is gave =
-    whole_of old new asked count text sized within (fits_answer asked old.held.newline old.held.known count within is) gave
+pub finishes_last : (old new : TextView) (asked : Wanted) (count : ℕ) (text : String Global) → old.held.newline ≡ old.settings.newline → WhereShown old.buffer (Tied old) → old.held.bytes ≡ [] → old.held.cr ≡ false → IsAtEnd old.buffer → asks_all asked ≡ false → count ≤ length old.held.known → take count old.held.known ≡ answer_of asked old.held.newline old.held.known → GiveOutcome old count (asks_any (size_of asked)) (Ok text) new → Finishes old asked (Ok (answer.Whole text)) new
+finishes_last old new asked count text rule tied none whole end sized within is gave =
+    whole_of old new asked count text sized within (fits_answer asked old.held.newline old.held.known count within is) (reads_one asked old.held.newline old.settings.newline old.held.known (take count old.held.known) rule (sym is)) gave
     (λ told. step_last old asked count (tied told) (last_at_end old none whole (end told)) sized within is)
 
 -- a read of all goes to the end
@@ -176,6 +183,7 @@ finishes_all old new text tied is none whole end gave =
       shorts = refl;
       sound = refl;
       place = record { clean = ap place_of gave.1; forth = forth };
+      lines = tt;
       blames = tt;
       told = λ told.
           let knows = (tied told).knows in
@@ -223,6 +231,10 @@ blames_unready : (asked : Wanted) (place : TextPlace) (far : ℕ) → TextBlames
 blames_unready (Characters size) place far = tt
 blames_unready (Line limit) place far = tt
 
+unready_lines : (asked : Wanted) (newline : _) → ReadsOneLine newline (call_of asked) NotReady
+unready_lines (Characters size) newline = tt
+unready_lines (Line limit) newline = tt
+
 stays_unready : (asked : Wanted) (place : TextPlace) (far : ℕ) → PlaceMoves (call_of asked) true NotReady place far place
 stays_unready (Characters None) place far = refl
 stays_unready (Characters (Some size)) place far = refl
@@ -238,6 +250,7 @@ finishes_unready text asked live reads is none drained holds =
       shorts = refl;
       sound = refl;
       place = stays_unready asked (place_of text) text.buffer.place;
+      lines = unready_lines asked text.settings.newline;
       blames = blames_unready asked (place_of text) text.buffer.place;
       told = λ told. step_unready text asked (tied told);
       hides = λ waits. (holds, λ told. shows_all text (omega (arith, is.forth, is.stands)) none drained (tied told).knows);
@@ -257,6 +270,7 @@ finishes_short old new asked count text live reads is short drained holds size s
       shorts = λ empty. some (sym all ∙ empty);
       sound = refl;
       place = moves_short asked (place_of old) (place_of new) old.buffer.place (text_of text) (subst (λ (cs : List ℕ). IfSome (size_of asked) (λ most. length cs ≤ most)) (sym all) (is_short asked old.held.newline known short).size) (gave_place old new count true text (omega (arith, size)) gave);
+      lines = reads_one asked old.held.newline old.settings.newline known (text_of text) (is.reads_by reads).newline ((is_short asked old.held.newline known short).answer ∙ sym all);
       blames = blames_none asked (text_of text) (place_of old) old.buffer.place;
       told = λ told. subst (λ (cs : List ℕ). TextFileStep (shown_file old) (call_of asked) (Text cs) true false (shown_file new)) (sym all)
           (subst (TextFileStep (shown_file old) (call_of asked) (Text known) true false) (sym (gave_file old new count true text gave ∙ ap (λ (n : ℕ). after_taking (shown_file old) n true) size)) (step_waits old asked (tied told) short some));

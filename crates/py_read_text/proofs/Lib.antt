@@ -1,5 +1,6 @@
 mod Lines
 mod Enough
+mod OneLine
 mod Following
 mod Knowing
 pub mod Steps

@@ -26,7 +26,7 @@ use Rattle.py_read_text.specs.Waiting.{ShowsAll}
 use Rattle.py_read_text.specs.Ahead.{AsksAsNeeded}
 use Rattle.py_read_text.specs.TextState.{TextState}
 use Rattle.py_read_text.specs.Owing.{IsJoined, given_by, WriteMovesBy, Starves, Closes}
-use Rattle.py_read_text.specs.Answers.{calls_nothing, gives_text, IsReplyTo, IsComplete, IsShort, PlaceMoves, WriteMoves, LifeMoves, settings_after, closes_again, WantsMemory, ClosesWithRaw, TextPasses, MovesByOwn, TextKeeps, TextHolds, TextBlames, Answers}
+use Rattle.py_read_text.specs.Answers.{calls_nothing, gives_text, IsReplyTo, IsComplete, IsShort, PlaceMoves, ReadsOneLine, WriteMoves, LifeMoves, settings_after, closes_again, WantsMemory, ClosesWithRaw, TextPasses, MovesByOwn, TextKeeps, TextHolds, TextBlames, Answers}
 use Rattle.py_read_text.specs.Knowing.{TextView, place_of, over_of, state_of, shown_file}
 use Rattle.py_read_text.specs.Reading.{call_of, asks_none, Reads, KeepsPlace, HoldsNothing, gathers_wait, GatherOutcome, GathersAsNeeded, Finishes, OnlyWhereWaits, WaitsOrLacks, reply_of, waited_in}
 use Rattle.py_read_text.proofs.Steps.{accepts}
@@ -120,6 +120,7 @@ pub record Parts (old : TextView) (asked : Wanted) (waited short : Bool) (reply 
   pub answer : (writes : Bool) → IsReplyTo writes (call_of asked) reply
   pub shorts : IsShort reply short
   pub place : PlaceMoves (call_of asked) short reply (place_of old) new.buffer.place (place_of new)
+  pub lines : ReadsOneLine old.settings.newline (call_of asked) reply
   pub blames : TextBlames (call_of asked) reply (place_of old) new.buffer.place
   pub joined : IsJoined (over_of new)
   pub needs : GathersAsNeeded old asked new
@@ -169,6 +170,7 @@ answers old new asked waited short reply live can parts =
       answer = λ accepts. parts.answer old.buffer.can.writable;
       complete = λ accepts calm sound. completes asked reply short old.buffer new.buffer old.buffer.can.writable (parts.answer old.buffer.can.writable) parts.shorts causes_wait parts.reads.fault calm sound;
       wants = wants_none asked reply old.buffer;
+      lines = parts.lines;
       blames = parts.blames;
       joined = parts.joined;
       owes = owes_none (over_of old) (call_of asked) (over_of new) (writes_no_place asked old.at new.at) (passes_behind old.buffer.raw new.buffer.raw old.buffer.owed.bytes new.buffer.owed.bytes [] parts.reads.passes);
@@ -201,6 +203,10 @@ stops_place : (asked : Wanted) (why : IoFault) (old new : TextView) (far : ℕ) 
 stops_place (Characters None) why old new far place = same_place old new place
 stops_place (Characters (Some size)) why old new far place = same_place old new place
 stops_place (Line limit) why old new far place = same_place old new place
+
+stopped_lines : (asked : Wanted) (why : IoFault) (newline : _) → ReadsOneLine newline (call_of asked) (Refused why)
+stopped_lines (Characters size) why newline = tt
+stopped_lines (Line limit) why newline = tt
 
 fault_blames : (asked : Wanted) (place : TextPlace) (far : ℕ) → TextBlames (call_of asked) (Refused fault.RawFault) place far
 fault_blames (Characters size) place far = tt
@@ -239,6 +245,7 @@ stopped old new asked fault.RawFault live can was joined place nothing needs out
       answer = faults_reply asked;
       shorts = refl;
       place = stops_place asked fault.RawFault old new new.buffer.place place;
+      lines = stopped_lines asked fault.RawFault old.settings.newline;
       blames = fault_blames asked (place_of old) new.buffer.place;
       joined = joined;
       needs = needs;
@@ -257,6 +264,7 @@ stopped old new asked fault.NoMemory live can was joined place nothing needs out
       answer = starves_reply asked;
       shorts = refl;
       place = stops_place asked fault.NoMemory old new new.buffer.place place;
+      lines = stopped_lines asked fault.NoMemory old.settings.newline;
       blames = starved_blames asked (place_of old) new.buffer.place;
       joined = joined;
       needs = needs;
@@ -297,6 +305,7 @@ finished old mid new asked stop result live can was joined place nothing needs o
       shorts = done.shorts;
       place = subst (λ (own : TextPlace). PlaceMoves (call_of asked) (waited_in result) (reply_of result) own new.buffer.place (place_of new)) (same_place old mid place)
           (subst (λ (buffer : Buffer). PlaceMoves (call_of asked) (waited_in result) (reply_of result) (place_of mid) buffer.place (place_of new)) (sym done.buffer) done.place);
+      lines = subst (λ (settings : TextSettings). ReadsOneLine settings.newline (call_of asked) (reply_of result)) place.settings done.lines;
       blames = subst (λ (own : TextPlace). TextBlames (call_of asked) (reply_of result) own new.buffer.place) (same_place old mid place)
           (subst (λ (buffer : Buffer). TextBlames (call_of asked) (reply_of result) (place_of mid) buffer.place) (sym done.buffer) done.blames);
       joined = joined;

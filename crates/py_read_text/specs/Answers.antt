@@ -8,7 +8,10 @@ use Rattle.py_flat.specs.declared.life.Life.TheVariants as life
 use Rattle.py_flat.specs.Calls as binary
 use Rattle.py_flat.specs.Calls.{FileReply, Text, Count, Done, NotReady, Unwritten, Refused}
 use Rattle.py_flat.specs.Causes.{rose, counted}
+use Rattle.py_flat.specs.Lines.{first_line}
 use Rattle.py_flat.specs.ExactStep.{is_closed}
+use Rattle.py_plain.specs.declared.newlines.Newlines.{Newlines}
+use Rattle.py_plain.specs.NewlineRule.{line_end}
 use Rattle.py_codec.specs.Answers.{text_of}
 use Rattle.py_plain_text.specs.TextFile.{TextPlace, clean_at, TextSettings}
 use Rattle.py_plain_text.specs.TextOver.{TextOver}
@@ -154,6 +157,11 @@ WriteMoves settings (WriteText text) (Refused fault.RawFault) before after = May
 WriteMoves settings (WriteText text) (Refused fault.NoMemory) before after = MayMove (length (written_bytes settings text)) before after
 WriteMoves settings (WriteText text) reply before after = after ≡ before
 WriteMoves settings call reply before after = Unit {0}
+
+-- a line that is given, whole or short, is one: no line end stands in it but at its end, and it goes no further than the limit
+abbrev pub ReadsOneLine : Newlines → TextFileCall → FileReply → Type 0
+ReadsOneLine newline (ReadLine limit) (Text characters) = first_line (line_end newline) limit characters ≡ characters
+ReadsOneLine newline call reply = Unit {0}
 
 -- what a call moves
 pub record TextMoves (before : TextState) (call : TextFileCall) (reply : FileReply) (after : TextState) : Type 0 where
@@ -305,6 +313,8 @@ pub record Answers (before : TextState) (call : TextFileCall) (reply : FileReply
   pub nothing : calls_nothing call ≡ true → after.text.buffer ≡ before.text.buffer
   -- life, settings and place after the call
   pub moves : TextMoves before call reply after
+  -- what a line is that is given
+  pub lines : ReadsOneLine before.text.settings.newline call reply
   -- which range may be refused
   pub blames : TextBlames call reply before.text.place after.text.buffer.place
   -- what the buffer owes and what the text itself does stand one behind the other, and how many characters were taken is bounded by where

@@ -39,7 +39,7 @@ use Rattle.py_read_text.specs.declared.read_text.Answer.TheVariants as answer
 use Rattle.py_read_text.specs.Waiting.{ShowsAll}
 use Rattle.py_read_text.specs.Ahead.{AsksAsNeeded}
 use Rattle.py_read_text.specs.Owing.{PassesOwed, LaysFront}
-use Rattle.py_read_text.specs.Answers.{SparesBytes, StandsWhileLive, IsReplyTo, IsShort, PlaceMoves, TextBlames}
+use Rattle.py_read_text.specs.Answers.{SparesBytes, StandsWhileLive, IsReplyTo, IsShort, PlaceMoves, ReadsOneLine, TextBlames}
 
 -- the call that some wanted characters answer
 abbrev pub call_of : Wanted → TextFileCall
@@ -304,6 +304,7 @@ pub record Finishes (old : TextView) (asked : Wanted) (result : Result Answer Io
   pub shorts : IsShort (reply_of result) (waited_in result)
   pub sound : says_fault (reply_of result) ≡ false
   pub place : PlaceMoves (call_of asked) (waited_in result) (reply_of result) (place_of old) old.buffer.place (place_of new)
+  pub lines : ReadsOneLine old.settings.newline (call_of asked) (reply_of result)
   pub blames : TextBlames (call_of asked) (reply_of result) (place_of old) old.buffer.place
   pub told : WhereShown old.buffer (TextFileStep (shown_file old) (call_of asked) (reply_of result) (waited_in result) false (shown_file new))
   pub hides : IsTrue (waited_in result) → HoldsNothing new.buffer × WhereShown old.buffer (ShowsAll (shown_file new) new.buffer.place)

@@ -79,6 +79,7 @@ says_all old new one all first at answers told = record {
   shorts = answers.shorts;
   nothing = λ none. absurd (cc);
   moves = record { settings = answers.moves.settings; life_is = answers.moves.life_is; place = answers.moves.place; written = tt };
+  lines = tt;
   blames = tt;
   joined = answers.joined;
   owes = answers.owes;

@@ -16,7 +16,7 @@ use Rattle.py_raw.proofs.Telling.{keeps_same}
 use Rattle.py_stream.specs.Buffer.{Buffer}
 use Rattle.py_read_text.specs.TextState.{TextState, file_of}
 use Rattle.py_read_text.specs.Owing.{all_owed, IsJoined, Closes}
-use Rattle.py_read_text.specs.Answers.{Answers, settings_after, LifeMoves, PlaceMoves, WriteMoves, closes_again, WantsMemory, ClosesWithRaw, TextPasses, TextKeeps, TextHolds, TextBlames, MovesByOwn}
+use Rattle.py_read_text.specs.Answers.{Answers, settings_after, LifeMoves, PlaceMoves, ReadsOneLine, WriteMoves, closes_again, WantsMemory, ClosesWithRaw, TextPasses, TextKeeps, TextHolds, TextBlames, MovesByOwn}
 use Rattle.py_read_text.proofs.Owing.{passes_none, moves_none, owes_none, open_still}
 use Rattle.py_read_text.proofs.Fronts.{lays_still}
 use Rattle.py_text_session.specs.Handing.{gone_text}
@@ -80,6 +80,10 @@ keeps_none : (call : TextFileCall) (after : TextState) → TextKeeps call (Refus
 keeps_none (WriteText text) after = tt
 keeps_none call after = tt
 
+lines_none : (call : TextFileCall) (newline : _) → ReadsOneLine newline call (Refused fault.Detached)
+lines_none (ReadLine limit) newline = tt
+lines_none call newline = tt
+
 blames_none : (call : TextFileCall) (place : TextPlace) (far : ℕ) → TextBlames call (Refused fault.Detached) place far
 blames_none (Read size) place far = tt
 blames_none (ReadLine limit) place far = tt
@@ -108,6 +112,7 @@ gone_answers can buffering settings raw call asks =
       shorts = refl;
       nothing = λ none. refl;
       moves = record { settings = settings_stay call settings; life_is = life_stays can.writable call; place = place_stays call gone.text.place; written = written_stays settings call gone.text.place };
+      lines = lines_none call settings.newline;
       blames = blames_none call gone.text.place gone.text.buffer.place;
       joined = gone_joined can buffering settings raw;
       owes = owes_none gone.text call gone.text (moves_none call gone.text.place.at) (passes_none raw (all_owed gone.text));

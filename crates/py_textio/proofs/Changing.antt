@@ -162,6 +162,7 @@ set_answers view changes live accepted joined = record {
   shorts = refl;
   nothing = λ none. refl;
   moves = record { settings = refl; life_is = refl; place = refl; written = tt };
+  lines = tt;
   blames = tt;
   joined = joined;
   lays = lays_still (over_of view) _;

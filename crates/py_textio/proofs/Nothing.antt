@@ -14,7 +14,7 @@ use Rattle.py_raw.proofs.Telling.{keeps_same}
 use Rattle.py_held_text.specs.declared.wanted.Wanted.{Wanted}
 use Rattle.py_held_text.specs.declared.wanted.Wanted.TheVariants.{Characters, Line}
 use Rattle.py_read_text.specs.Owing.{all_owed, IsJoined}
-use Rattle.py_read_text.specs.Answers.{PlaceMoves, Answers}
+use Rattle.py_read_text.specs.Answers.{PlaceMoves, ReadsOneLine, Answers}
 use Rattle.py_read_text.specs.Reading.{call_of, asks_none}
 use Rattle.py_read_text.proofs.Steps.{accepts}
 use Rattle.py_read_text.proofs.Owing.{passes_none, owes_none, open_still}
@@ -69,6 +69,12 @@ none_moves (Line None) place end none = absurd (cc)
 none_moves (Line (Some zero)) place end none = record { taken = takes_none place; within = λ limit is. omega arith }
 none_moves (Line (Some (suc size))) place end none = absurd (cc)
 
+none_lines : (asked : Wanted) (newline : _) → asks_none asked ≡ true → ReadsOneLine newline (call_of asked) (Text [])
+none_lines (Characters size) newline none = tt
+none_lines (Line None) newline none = absurd (cc)
+none_lines (Line (Some zero)) newline none = refl
+none_lines (Line (Some (suc size))) newline none = absurd (cc)
+
 none_answers : (asked : Wanted) (old : WrittenView) (was : Bool) → old.life ≡ life.Live → old.text.buffer.can.readable ≡ true → asks_none asked ≡ true → IsJoined (over_of old) → Answers (state_of old was) (call_of asked) (Text []) (state_of old false)
 none_answers (Characters size) old was live can none joined = record {
   keeps = record { raw = keeps_same old.text.buffer.raw; can = refl; buffering = refl; exported = refl };
@@ -79,6 +85,7 @@ none_answers (Characters size) old was live can none joined = record {
   shorts = refl;
   nothing = λ is. refl;
   moves = record { settings = refl; life_is = refl; place = none_moves (Characters size) (place_now old) old.text.buffer.place none; written = tt };
+  lines = tt;
   blames = tt;
   joined = joined;
   owes = owes_none (over_of old) (call_of (Characters size)) (over_of old) tt (passes_none old.text.buffer.raw (all_owed (over_of old)));
@@ -112,6 +119,7 @@ none_answers (Line limit) old was live can none joined = record {
   shorts = refl;
   nothing = λ is. refl;
   moves = record { settings = refl; life_is = refl; place = none_moves (Line limit) (place_now old) old.text.buffer.place none; written = tt };
+  lines = none_lines (Line limit) old.text.settings.newline none;
   blames = tt;
   joined = joined;
   owes = owes_none (over_of old) (call_of (Line limit)) (over_of old) tt (passes_none old.text.buffer.raw (all_owed (over_of old)));

@@ -24,7 +24,7 @@ use Rattle.py_read_text.specs.TextState.{TextState}
 use Rattle.py_read_text.specs.Owing.{all_owed, behind_own, PassesOwed, given_by, WriteMovesBy, OwesOn, own_from, flushes_behind, GaveOwn, Starves, KeepsOpen, Closes, IsJoined, LaysOwed}
 use Rattle.py_read_text.proofs.Owing.{has_own, passes_then, passes_behind, open_then, owing_then}
 use Rattle.py_read_text.specs.Ahead.{AsksAsNeeded, starts_at, ReadsNoFurther}
-use Rattle.py_read_text.specs.Answers.{calls_nothing, passes_on, gives_text, LifeMoves, PlaceMoves, WriteMoves, settings_after, IsReplyTo, WantsMemory, closes_again, TextPasses, MovesByOwn, TextHolds, TextBlames, Answers}
+use Rattle.py_read_text.specs.Answers.{calls_nothing, passes_on, gives_text, LifeMoves, PlaceMoves, ReadsOneLine, WriteMoves, settings_after, IsReplyTo, WantsMemory, closes_again, TextPasses, MovesByOwn, TextHolds, TextBlames, Answers}
 use Rattle.py_read_text.specs.Knowing.{place_of}
 use Rattle.py_textio.specs.Written.{WrittenView, behind_owed, place_now, over_of, state_of, file_now, CallsBuffer, HandsOnBut, HandsOn, SettleOutcome}
 use Rattle.py_textio.specs.Working.{Works}
@@ -169,6 +169,7 @@ answers_over old mid call reply new short was is writes live lives stood there h
       life_is = subst (λ (own : Bool). LifeMoves own call reply old.life new.life) mid_writes (subst (λ (own : Life). LifeMoves mid.text.buffer.can.writable call reply own new.life) current answers.moves.life_is);
       place = subst (λ (own : TextPlace). PlaceMoves call short reply own new.text.buffer.place (place_now new)) hands.place answers.moves.place;
       written = written;
+      lines = subst (λ (own : TextSettings). ReadsOneLine own.newline call reply) hands.settings answers.lines;
       blames = subst (λ (own : TextPlace). TextBlames call reply own new.text.buffer.place) hands.place answers.blames;
       joined = answers.joined;
       owes = owes_behind (over_of old) (over_of mid) (over_of new) call hands.calls.keeps.raw hands.owes hands.settings hands.place answers.owes;

@@ -23,7 +23,7 @@ use Rattle.py_held_text.specs.declared.wanted.Wanted.{Wanted}
 use Rattle.py_held_text.specs.declared.wanted.Wanted.TheVariants.{Characters, Line}
 use Rattle.py_read_text.specs.TextState.{TextState}
 use Rattle.py_read_text.specs.Owing.{all_owed, IsJoined, Starves, Closes}
-use Rattle.py_read_text.specs.Answers.{IsShort, PlaceMoves, WriteMoves, LifeMoves, settings_after, closes_again, WantsMemory, ClosesWithRaw, TextPasses, TextKeeps, TextHolds, TextBlames, Answers}
+use Rattle.py_read_text.specs.Answers.{IsShort, PlaceMoves, ReadsOneLine, WriteMoves, LifeMoves, settings_after, closes_again, WantsMemory, ClosesWithRaw, TextPasses, TextKeeps, TextHolds, TextBlames, Answers}
 use Rattle.py_read_text.specs.Reading.{call_of}
 use Rattle.py_read_text.proofs.Owing.{passes_none, moves_none, owes_none, open_still}
 use Rattle.py_read_text.proofs.Steps.{accepts}
@@ -130,6 +130,10 @@ refuses_no_range file asked life.Failed readable why is can here = same_range fa
 refuses_no_range file asked life.Closed readable why is can here = same_range fault.Closed why (sym (by_life file asked life.Closed fault.Closed is refl) ∙ here) refl
 refuses_no_range file asked life.Detached readable why is can here = same_range fault.Detached why (sym (by_life file asked life.Detached fault.Detached is refl) ∙ here) refl
 
+lines_refused : (call : TextFileCall) (why : IoFault) (newline : _) → ReadsOneLine newline call (Refused why)
+lines_refused (ReadLine limit) why newline = tt
+lines_refused call why newline = tt
+
 blames_refused : (file : TextFile) (call : TextFileCall) (why : IoFault) (place : TextPlace) (far : ℕ) → refusal file call ≡ Some why → TextBlames call (Refused why) place far
 blames_refused file (Read size) (fault.UnicodeDecodeError start end) place far is = let never = refuses_no_range file (Characters size) file.life file.can.readable (fault.UnicodeDecodeError start end) refl refl is in absurd (cc)
 blames_refused file (Read size) why place far is = tt
@@ -154,6 +158,7 @@ refused text was call why is own once joined =
       shorts = whole_refused why own;
       nothing = λ none. refl;
       moves = record { settings = settings_refused call why text.text.settings; life_is = life_refused text.text.buffer.can.writable call why text.life own; place = place_refused call why (place_now text) text.text.buffer.place; written = written_refused text.text.settings call why (place_now text) own };
+      lines = lines_refused call why text.text.settings.newline;
       blames = blames_refused (file_now text) call why (place_now text) text.text.buffer.place is;
       joined = joined;
       owes = owes_none (over_of text) call (over_of text) (moves_none call (place_now text).at) (passes_none text.text.buffer.raw (all_owed (over_of text)));
@@ -269,6 +274,7 @@ closed_again now text was same is joined =
       shorts = refl;
       nothing = λ none. refl;
       moves = record { settings = refl; life_is = is; place = refl; written = tt };
+      lines = tt;
       blames = tt;
       joined = joined;
       owes = owes_none (over_of text) Close (over_of text) tt (passes_none text.text.buffer.raw (all_owed (over_of text)));
@@ -344,6 +350,7 @@ chunks_so now text new was size same live some joined is =
       shorts = refl;
       nothing = λ none. refl;
       moves = record { settings = refl; life_is = refl; place = refl; written = tt };
+      lines = tt;
       blames = tt;
       joined = joined;
       owes = owes_none (over_of text) (SetChunkSize size) (over_of (with_chunk text size)) tt (passes_none text.text.buffer.raw (all_owed (over_of text)));
@@ -420,6 +427,7 @@ over_short now text was call reply after same passes answers = subst (λ (before
   shorts = answers.shorts;
   nothing = answers.nothing;
   moves = record { settings = answers.moves.settings; life_is = answers.moves.life_is; place = answers.moves.place; written = answers.moves.written };
+  lines = answers.lines;
   blames = answers.blames;
   joined = answers.joined;
   owes = answers.owes;

@@ -21,6 +21,7 @@ answers_work old call reply new short works = record {
     place = works.place;
     written = works.written;
   };
+  lines = works.lines;
   blames = works.blames;
   joined = works.joined;
   owes = works.owes;

@@ -8,7 +8,7 @@ use Rattle.py_plain_text.specs.TextAllowed.{TextFileStep}
 use Rattle.py_stream.specs.Kinds.{says_fault}
 use Rattle.py_stream.specs.Buffer.{WhereShown}
 use Rattle.py_read_text.specs.Ahead.{ReadsNoFurther}
-use Rattle.py_read_text.specs.Answers.{calls_nothing, passes_on, gives_text, IsReplyTo, IsComplete, IsShort, PlaceMoves, WriteMoves, LifeMoves, settings_after, closes_again, WantsMemory, ClosesWithRaw, HidesNothing, TextPasses, MovesByOwn, TextKeeps, TextHolds, TextBlames}
+use Rattle.py_read_text.specs.Answers.{calls_nothing, passes_on, gives_text, IsReplyTo, IsComplete, IsShort, PlaceMoves, ReadsOneLine, WriteMoves, LifeMoves, settings_after, closes_again, WantsMemory, ClosesWithRaw, HidesNothing, TextPasses, MovesByOwn, TextKeeps, TextHolds, TextBlames}
 use Rattle.py_read_text.specs.Owing.{all_owed, IsJoined, given_by, OwesOn, LaysOwed, Starves, StopsOwing, KeepsOpen, StaysWhileOwing, may_close, Closes}
 use Rattle.py_textio.specs.Written.{WrittenView, place_now, over_of, state_of, file_now, CallsBuffer}
 
@@ -27,6 +27,7 @@ pub record Works (old : WrittenView) (call : TextFileCall) (reply : FileReply) (
   pub life_is : LifeMoves true call reply old.life new.life
   pub place : PlaceMoves call short reply (place_now old) new.text.buffer.place (place_now new)
   pub written : WriteMoves old.text.settings call reply (place_now old) (place_now new)
+  pub lines : ReadsOneLine old.text.settings.newline call reply
   pub blames : TextBlames call reply (place_now old) new.text.buffer.place
   pub joined : IsJoined (over_of new)
   -- what became of the bytes that were owed, and of the raw

@@ -6,13 +6,13 @@ pub returns-in_ok-text-in-Enough-clause-finishes : goal.returns-in_ok-text-in-En
 returns-in_ok-text-in-Enough-clause-finishes g c =
     let holds = subst Holds c.self.view_is c.self.invariant in
     let stands = rw c.in-Enough.is at c.requires.stands in
-    finishes_enough _ _ c.args.wanted c.in-Enough.front.chars c.in_ok-text-in-Enough.text (tied_of _ c.requires.live c.requires.reads holds) stands.0 (rw c.asks_any.ensures at c.in_ok-text-in-Enough.ensures)
+    finishes_enough _ _ c.args.wanted c.in-Enough.front.chars c.in_ok-text-in-Enough.text (holds.reads_by c.requires.reads).newline (tied_of _ c.requires.live c.requires.reads holds) stands.0 (rw c.asks_any.ensures at c.in_ok-text-in-Enough.ensures)
 
 pub returns-in_ok-text-in-Before-clause-finishes : goal.returns-in_ok-text-in-Before-clause-finishes
 returns-in_ok-text-in-Before-clause-finishes g c =
     let holds = subst Holds c.self.view_is c.self.invariant in
     let stands = rw c.in-Before.is at c.requires.stands in
-    finishes_before _ _ c.args.wanted c.in-Before.front.chars c.in_ok-text-in-Before.text (tied_of _ c.requires.live c.requires.reads holds) stands.0 stands.2 (rw c.asks_any-in-Before.ensures at c.in_ok-text-in-Before.ensures)
+    finishes_before _ _ c.args.wanted c.in-Before.front.chars c.in_ok-text-in-Before.text (holds.reads_by c.requires.reads).newline (tied_of _ c.requires.live c.requires.reads holds) stands.0 stands.2 (rw c.asks_any-in-Before.ensures at c.in_ok-text-in-Before.ensures)
 
 pub returns-in-Refuses-clause-finishes : goal.returns-in-Refuses-clause-finishes
 returns-in-Refuses-clause-finishes g c =

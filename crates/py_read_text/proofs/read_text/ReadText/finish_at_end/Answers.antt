@@ -11,7 +11,7 @@ returns-clause-finishes g c =
     let stands = c.requires.stands in
     let front = c.find_last-front.ensures in
     let sized : asks_all c.args.wanted ≡ false = sym c.asks_all.ensures ∙ c.if-asks_all.false in
-    finishes_last _ _ c.args.wanted c.find_last-front.result.chars c.in_ok-text-2.text (tied_of _ c.requires.live c.requires.reads holds) stands.0 stands.1 stands.2 sized
+    finishes_last _ _ c.args.wanted c.find_last-front.result.chars c.in_ok-text-2.text (holds.reads_by c.requires.reads).newline (tied_of _ c.requires.live c.requires.reads holds) stands.0 stands.1 stands.2 sized
     (omega (arith, front.front.within, ap (λ (view : TextView). length view.held.known) c.self.view_is))
     (subst (λ (view : TextView). take c.find_last-front.result.chars view.held.known ≡ answer_of c.args.wanted view.held.newline view.held.known) c.self.view_is front.answer)
     (rw c.asks_any.ensures at c.in_ok-text-2.ensures)
