@@ -24,7 +24,7 @@ use Rattle.py_raw.specs.RawStream.{KeepsBytes, AnswersFor}
 use Rattle.py_stream.specs.Stream.{nothing_owed}
 use Rattle.py_stream.specs.Kinds.{says_fault, says_no_memory}
 use Rattle.py_stream.specs.Answers.{HasCauses}
-use Rattle.py_stream.specs.Buffer.{Buffer, WhereShown, KeepsBuffer, IsClosedWithRaw, parts_when_closed, StandsAsCounted}
+use Rattle.py_stream.specs.Buffer.{Buffer, WhereShown, KeepsBuffer, IsClosedWithRaw, parts_when_closed, AnswersAsBuffer, StandsAsCounted}
 use Rattle.py_read_text.specs.TextState.{TextState, file_of}
 use Rattle.py_read_text.specs.Waiting.{ShowsAll}
 use Rattle.py_read_text.specs.Ahead.{ReadsNoFurther}
@@ -285,10 +285,20 @@ pub record HoldsBack (before : TextOver Buffer) (given : List ℕ) (after : Text
   pub rest : after.buffer.owed.bytes ≡ before.buffer.owed.bytes
   pub buffer : behind_own before ≡ before.place.at → after.buffer ≡ before.buffer
 
+-- the buffer took all that the text owed and was given, by one write
+pub record WritesAll (before : TextOver Buffer) (given : List ℕ) (after : TextOver Buffer) : Type 0 where
+  pub none : after.owed ≡ []
+  pub write : AnswersAsBuffer before.buffer (binary.Write (before.owed ++ given)) (Count (length (before.owed ++ given))) after.buffer
+
 -- an answered write hands on nothing that it needn't: without write through, where what the text owes and is given is less than a chunk,
--- and no flush is to follow
+-- and no flush is to follow. Where none is to follow a buffer that wasn't read ahead of the text is called for one write at most: it isn't
+-- flushed
+pub record HandsOnLittle (before : TextOver Buffer) (given : List ℕ) (flushes : Bool) (after : TextOver Buffer) : Type 0 where
+  pub few : before.settings.write_through ≡ false → flushes ≡ false → length (before.owed ++ given) < before.settings.chunk_size → HoldsBack before given after
+  pub once : flushes ≡ false → behind_own before ≡ before.place.at → HoldsBack before given after ⊎ WritesAll before given after
+
 abbrev pub TextHolds : TextOver Buffer → TextFileCall → FileReply → TextOver Buffer → Type 0
-TextHolds before (WriteText text) (Count count) after = before.settings.write_through ≡ false → flushes_behind before.settings (WriteText text) ≡ false → length (before.owed ++ written_bytes before.settings text) < before.settings.chunk_size → HoldsBack before (written_bytes before.settings text) after
+TextHolds before (WriteText text) (Count count) after = HandsOnLittle before (written_bytes before.settings text) (flushes_behind before.settings (WriteText text)) after
 TextHolds before call reply after = Unit {0}
 
 -- the raw of a live buffer stands where the buffer counts
@@ -361,5 +371,5 @@ pub record Answers (before : TextState) (call : TextFileCall) (reply : FileReply
   pub by_own : MovesByOwn call before.text after.text
   -- how little an answered write leaves with the text
   pub kept : TextKeeps call reply after
-  -- which answered writes hand on nothing
+  -- which answered writes hand on nothing, and which don't flush the buffer
   pub holds : TextHolds before.text call reply after.text

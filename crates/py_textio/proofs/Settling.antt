@@ -34,7 +34,7 @@ use Rattle.py_read_text.proofs.Placing.{accepts_write, flush_flat}
 use Rattle.py_read_text.proofs.Calling.{all_passed, accepts_flush}
 use Rattle.py_read_text.proofs.Owing.{passes_none, passes_then, passes_behind, front_passes, takes_passed, open_still, open_then, open_of, open_called}
 use Rattle.py_textio.proofs.Over.{calls_on}
-use Rattle.py_textio.specs.Written.{WrittenView, behind_owed, place_now, over_of, state_of, CallsBuffer, HandsOn, StandsToWrite, TakesNothing, LetsGo, IsWritten, SettleOutcome, BackOutcome, PassOutcome, HandOutcome, with_taken}
+use Rattle.py_textio.specs.Written.{WrittenView, behind_owed, place_now, over_of, state_of, CallsBuffer, HandsOn, StandsToWrite, TakesNothing, LetsGo, IsWritten, SettleOutcome, BackOutcome, PassOutcome, HandOutcome, HandsOnOnce, TookPending, with_taken}
 use Rattle.py_read_text.proofs.Fronts.{lays_none, lays_both, lays_alone, lays_owed, lays_on, lays_still}
 
 -- The place of a text that owes bytes.
@@ -167,7 +167,7 @@ none_taken before after bytes takes place =
 pub settled_so : (old new : WrittenView) (result : Result ℕ IoFault) → OwesUpTo old.text.buffer.owed old.text.buffer.place → old.life ≡ life.Live → AnswersAsBuffer old.text.buffer (Write old.pending) (count_reply result) new.text.buffer → Takes (stream_shown old.text.buffer) old.pending (stream_shown new.text.buffer) → StandsToWrite old.text → StandsBehind old.text new.text → new.pending ≡ drop new.text.buffer.taken old.pending → old.text.buffer.can.writable ≡ true → old.text.buffer.life ≡ life.Live → old.text.buffer.exported ≡ false → old.text.buffer.place + length old.pending ≤ greatest_place → new.life ≡ new.text.buffer.life → SettleOutcome old (unit_of result) new
 settled_so old new (Ok count) ends live answers takes was stands left writes lives kept far current =
     let short : new.text.buffer.short ≡ false = answers.shorts in
-    (subst (λ (waited : Bool). HandsOn old waited false new) short (hands_so old new (Count count) ends answers takes was stands left lives (inl (answers.moves.life_is ∙ lives))), all_taken old new count answers left, current ∙ (answers.moves.life_is ∙ lives))
+    (subst (λ (waited : Bool). HandsOn old waited false new) short (hands_so old new (Count count) ends answers takes was stands left lives (inl (answers.moves.life_is ∙ lives))), all_taken old new count answers left, current ∙ (answers.moves.life_is ∙ lives), subst (λ (n : ℕ). AnswersAsBuffer old.text.buffer (Write old.pending) (Count n) new.text.buffer) (takes_all old.text.buffer.buffering old.pending count answers.moves.place.0) answers)
 settled_so old new (Err (fault.WouldBlock taken)) ends live answers takes was stands left writes lives kept far current =
     let short : new.text.buffer.short ≡ true = answers.shorts in
     let count : new.text.buffer.taken ≡ taken = omega (arith, answers.moves.place.1, answers.taken) in (
@@ -473,6 +473,11 @@ passed_behind old mid new count flushes (Err fault.NoMemory) was is hands outcom
     let on = hands_on old mid new false false was is hands outcome.0 in
     inl (on, outcome.1, some outcome.2, inr (outcome.2, record { further = went_on old new (some outcome.2) on.place outcome.3; none = outcome.3 }), sym hands.calls.keeps.raw.takes_memory ∙ outcome.4)
 passed_behind old mid new count flushes (Err other) was is hands outcome some = absurd outcome
+
+-- where no flush was to follow, the buffer was called for one write alone
+pub handed_once : (old mid new : WrittenView) (flushes : Bool) (result : Result (Unit {0}) IoFault) → SettleOutcome old (Ok tt) mid → (flushes ≡ false → new ≡ mid) → HandsOnOnce old flushes result new
+handed_once old mid new flushes (Ok done) took still = λ is. inr (subst (λ (view : WrittenView). (view.pending ≡ []) × TookPending old view) (sym (still is)) (took.1, took.3))
+handed_once old mid new flushes (Err why) took still = tt
 
 -- what is owed couldn't be handed on, and the text isn't as it was
 pub handed_not : (old new : WrittenView) (count : ℕ) (flushes : Bool) (why : IoFault) → old.pending ≢ [] → SettleOutcome old (Err why) new → (why ≡ fault.NoMemory → new.life ≢ life.Live) → HandOutcome old count flushes (Err (with_taken why count)) new

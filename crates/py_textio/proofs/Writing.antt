@@ -1,5 +1,5 @@
 -- A text that is written: what each answer says of it.
-use Rattle.std.proofs.Common.{◌≡◌, ◌≢◌, ℕ, ◌+◌, ◌<◌, ◌≤◌, inl, inr, Bool, true, false, ◌&&◌, ◌||◌, IsTrue, List, [], ◌∷◌, ◌++◌, ◌-◌, length, take, Option, Some, None, Result, Ok, Err, is_none, refl, sym, ap, ◌∙◌, subst, arith, append_assoc, append-nil}
+use Rattle.std.proofs.Common.{◌≡◌, ◌≢◌, ℕ, ◌+◌, ◌<◌, ◌≤◌, inl, inr, ◌⊎◌, Bool, true, false, ◌&&◌, ◌||◌, IsTrue, List, [], ◌∷◌, ◌++◌, ◌-◌, length, take, Option, Some, None, Result, Ok, Err, is_none, refl, sym, ap, ◌∙◌, subst, arith, append_assoc, append-nil}
 use Rattle.std.proofs.lemmas.List.{take_all, length-append, take-append-le}
 use Rattle.std.proofs.lemmas.Bool.{lt-ltb}
 use Rattle.py_flat.specs.declared.fault.IoFault.{IoFault}
@@ -9,7 +9,7 @@ use Rattle.py_flat.specs.declared.life.Life.TheVariants as life
 use Rattle.py_flat.specs.Bytes.{lay}
 use Rattle.py_flat.specs.FlatFile.{Abilities}
 use Rattle.py_flat.specs.AllowedStep.{settled, waited_for, raw_faulted, out_of_memory}
-use Rattle.py_flat.specs.Calls.{Count, Refused}
+use Rattle.py_flat.specs.Calls.{Count, Write, Refused}
 use Rattle.py_flat.specs.BinaryStep.{is_live}
 use Rattle.py_plain_text.specs.TextFile.{TextFile, TextPlace, TextSettings, clean_at}
 use Rattle.py_plain_text.specs.TextOver.{TextOver}
@@ -25,13 +25,13 @@ use Rattle.py_plain_text.specs.TextExact.{after_writing}
 use Rattle.py_plain_text.specs.TextAllowed.{SettledBy, Fails, does_work, reaches_raw, TextFileStep}
 use Rattle.py_raw.proofs.Telling.{tells_still}
 use Rattle.py_stream.specs.Kinds.{says_wait}
-use Rattle.py_stream.specs.Buffer.{Buffer, WhereShown, flat_of}
+use Rattle.py_stream.specs.Buffer.{Buffer, WhereShown, flat_of, AnswersAsBuffer}
 use Rattle.py_read_text.specs.Knowing.{place_of}
 use Rattle.py_read_text.proofs.Placing.{not_far}
-use Rattle.py_read_text.specs.Owing.{all_owed, IsJoined, PassesOwed, OwesOn, own_from, HasOwn, has_line_end, flushes_behind, GaveOwn, StopsOwing, all_from, LaysFront, LaysOwed}
+use Rattle.py_read_text.specs.Owing.{all_owed, behind_own, IsJoined, PassesOwed, OwesOn, own_from, HasOwn, has_line_end, flushes_behind, GaveOwn, StopsOwing, all_from, LaysFront, LaysOwed}
 use Rattle.py_read_text.proofs.Owing.{passes_then, passes_behind, owes_none, open_then, owing_open}
-use Rattle.py_read_text.specs.Answers.{further, IsPassedOn, KeepsFew, TextHolds, Answers}
-use Rattle.py_textio.specs.Written.{WrittenView, behind_owed, place_now, over_of, state_of, file_now, HandsOnBut, HandsOn, TookText, GoesBack, BackOutcome, LetsGo, HandOutcome, KeepsOwed}
+use Rattle.py_read_text.specs.Answers.{further, IsPassedOn, KeepsFew, HoldsBack, WritesAll, TextHolds, Answers}
+use Rattle.py_textio.specs.Written.{WrittenView, behind_owed, place_now, over_of, state_of, file_now, HandsOnBut, HandsOn, TookText, GoesBack, BackOutcome, LetsGo, HandOutcome, KeepsOwed, HandsOnOnce, TookPending}
 use Rattle.py_textio.proofs.Ended.{ended-some}
 use Rattle.py_textio.proofs.Refusing.{refused}
 use Rattle.py_textio.proofs.Settling.{behind_so, clean_place, own_from_is, both_true}
@@ -485,20 +485,39 @@ written_on old mid new text room count fault.NoMemory may back counts (inr lets)
     unwritten_starved old new text may (let_go_so old mid new (own_bytes old text) room count back counts lets) lets.lives joined
 written_on old mid new text room count other may back counts outcome joined = absurd outcome
 
--- nothing was handed on that needn't be
-holds_put : (old mid new : WrittenView) (text : List ℕ) (room count : ℕ) → GoesBack old mid → KeepsOwed (with_bytes mid (own_bytes old text) room) (old.text.settings.line_buffering && has_line_end text) (Ok tt) new → TextHolds (over_of old) (WriteText text) (Count count) (over_of new)
-holds_put old mid new text room count back keeps = λ through flushes few.
-    let less : length (mid.pending ++ own_bytes old text) < mid.text.settings.chunk_size = omega (arith, few, ap (λ (owed : List ℕ). length (owed ++ own_bytes old text)) back.pending, ap (λ (settings : TextSettings). settings.chunk_size) back.hands.settings) in
-    let same : new ≡ with_bytes mid (own_bytes old text) room = keeps (ap (λ (settings : TextSettings). settings.write_through) back.hands.settings ∙ through) flushes less in
+-- nothing was handed on
+held_put : (old mid new : WrittenView) (bytes : List ℕ) (room : ℕ) → GoesBack old mid → new ≡ with_bytes mid bytes room → HoldsBack (over_of old) bytes (over_of new)
+held_put old mid new bytes room back same = record {
+  own = ap (λ (view : WrittenView). view.pending) same ∙ ap (λ (owed : List ℕ). owed ++ bytes) back.pending;
+  rest = ap (λ (view : WrittenView). view.text.buffer.owed.bytes) same ∙ back.owed;
+  buffer = λ stands. ap (λ (view : WrittenView). view.text.buffer) same ∙ back.still (omega (arith, stands, ap (λ (place : TextPlace). place.at) (behind_so (place_of old.text) old.pending)));
+}
+
+-- all was handed on by one write of a buffer that had stood there
+wrote_put : (old mid new : WrittenView) (bytes : List ℕ) (room : ℕ) → GoesBack old mid → behind_own (over_of old) ≡ (place_now old).at → new.pending ≡ [] → TookPending (with_bytes mid bytes room) new → WritesAll (over_of old) bytes (over_of new)
+wrote_put old mid new bytes room back stands none took =
+    let still : mid.text.buffer ≡ old.text.buffer = back.still (omega (arith, stands, ap (λ (place : TextPlace). place.at) (behind_so (place_of old.text) old.pending))) in
     record {
-      own = ap (λ (view : WrittenView). view.pending) same ∙ ap (λ (owed : List ℕ). owed ++ own_bytes old text) back.pending;
-      rest = ap (λ (view : WrittenView). view.text.buffer.owed.bytes) same ∙ back.owed;
-      buffer = λ stands. ap (λ (view : WrittenView). view.text.buffer) same ∙ back.still (omega (arith, stands, ap (λ (place : TextPlace). place.at) (behind_so (place_of old.text) old.pending)));
+      none = none;
+      write = subst (λ (owed : List ℕ). AnswersAsBuffer old.text.buffer (Write (owed ++ bytes)) (Count (length (owed ++ bytes))) new.text.buffer) back.pending (subst (λ (buffer : Buffer). AnswersAsBuffer buffer (Write (mid.pending ++ bytes)) (Count (length (mid.pending ++ bytes))) new.text.buffer) still took);
     }
 
-pub written_all : (old mid new : WrittenView) (text : List ℕ) (room count chars : ℕ) → MayWrite old text → GoesBack old mid → chars ≡ length text → HandOutcome (with_bytes mid (own_bytes old text) room) count (old.text.settings.line_buffering && has_line_end text) (Ok tt) new → KeepsOwed (with_bytes mid (own_bytes old text) room) (old.text.settings.line_buffering && has_line_end text) (Ok tt) new → IsJoined (over_of new) → Answers (state_of old false) (WriteText text) (Count chars) (state_of new false)
-written_all old mid new text room count chars may back counts outcome keeps joined =
-    wrote old new text chars may (put_then old mid new (own_bytes old text) room false false back outcome.0) outcome.1 joined counts outcome.2 (λ lines ends. outcome.3 (both_true old.text.settings.line_buffering (has_line_end text) lines ends)) (holds_put old mid new text room chars back keeps)
+-- nothing was handed on that needn't be
+holds_put : (old mid new : WrittenView) (text : List ℕ) (room count : ℕ) → GoesBack old mid → KeepsOwed (with_bytes mid (own_bytes old text) room) (old.text.settings.line_buffering && has_line_end text) (Ok tt) new → HandsOnOnce (with_bytes mid (own_bytes old text) room) (old.text.settings.line_buffering && has_line_end text) (Ok tt) new → TextHolds (over_of old) (WriteText text) (Count count) (over_of new)
+holds_put old mid new text room count back keeps once = record {
+  few = λ through flushes few.
+      let less : length (mid.pending ++ own_bytes old text) < mid.text.settings.chunk_size = omega (arith, few, ap (λ (owed : List ℕ). length (owed ++ own_bytes old text)) back.pending, ap (λ (settings : TextSettings). settings.chunk_size) back.hands.settings) in
+      held_put old mid new (own_bytes old text) room back (keeps (ap (λ (settings : TextSettings). settings.write_through) back.hands.settings ∙ through) flushes less);
+  once = λ flushes stands. by_once stands (once flushes);
+}
+  where
+    by_once : behind_own (over_of old) ≡ (place_now old).at → (new ≡ with_bytes mid (own_bytes old text) room) ⊎ ((new.pending ≡ []) × TookPending (with_bytes mid (own_bytes old text) room) new) → HoldsBack (over_of old) (own_bytes old text) (over_of new) ⊎ WritesAll (over_of old) (own_bytes old text) (over_of new)
+    by_once stands (inl same) = inl (held_put old mid new (own_bytes old text) room back same)
+    by_once stands (inr took) = inr (wrote_put old mid new (own_bytes old text) room back stands took.0 took.1)
+
+pub written_all : (old mid new : WrittenView) (text : List ℕ) (room count chars : ℕ) → MayWrite old text → GoesBack old mid → chars ≡ length text → HandOutcome (with_bytes mid (own_bytes old text) room) count (old.text.settings.line_buffering && has_line_end text) (Ok tt) new → KeepsOwed (with_bytes mid (own_bytes old text) room) (old.text.settings.line_buffering && has_line_end text) (Ok tt) new → HandsOnOnce (with_bytes mid (own_bytes old text) room) (old.text.settings.line_buffering && has_line_end text) (Ok tt) new → IsJoined (over_of new) → Answers (state_of old false) (WriteText text) (Count chars) (state_of new false)
+written_all old mid new text room count chars may back counts outcome keeps once joined =
+    wrote old new text chars may (put_then old mid new (own_bytes old text) room false false back outcome.0) outcome.1 joined counts outcome.2 (λ lines ends. outcome.3 (both_true old.text.settings.line_buffering (has_line_end text) lines ends)) (holds_put old mid new text room chars back keeps once)
 
 -- nothing of the bytes that are given was handed on
 hands_given : (old new : WrittenView) (given : List ℕ) (waited faulted : Bool) → HandsOn old waited faulted new → HandsOnBut given old waited faulted new
@@ -517,6 +536,9 @@ hand_at put other new count flushes flush result same is outcome = subst (λ (vi
 
 pub keeps_at : (put other new : WrittenView) (flushes flush : Bool) (result : Result (Unit {0}) IoFault) → put ≡ other → flushes ≡ flush → KeepsOwed put flushes result new → KeepsOwed other flush result new
 keeps_at put other new flushes flush result same is keeps = subst (λ (view : WrittenView). KeepsOwed view flush result new) same (subst (λ (own : Bool). KeepsOwed put own result new) is keeps)
+
+pub once_at : (put other new : WrittenView) (flushes flush : Bool) (result : Result (Unit {0}) IoFault) → put ≡ other → flushes ≡ flush → HandsOnOnce put flushes result new → HandsOnOnce other flush result new
+once_at put other new flushes flush result same is once = subst (λ (view : WrittenView). HandsOnOnce view flush result new) same (subst (λ (own : Bool). HandsOnOnce put own result new) is once)
 
 -- a text with a line end has bytes to hand on
 pub put_some : (old mid put : WrittenView) (text : List ℕ) → put ≡ with_bytes mid (own_bytes old text) put.room → written_refusal old.text.settings text ≡ None → has_line_end text ≡ true → put.pending ≢ []

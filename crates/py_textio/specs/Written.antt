@@ -6,7 +6,7 @@ use Rattle.py_flat.specs.declared.life.Life.{Life}
 use Rattle.py_flat.specs.declared.life.Life.TheVariants as life
 use Rattle.py_flat.specs.Bytes.{lay}
 use Rattle.py_flat.specs.Limits.{greatest_place}
-use Rattle.py_flat.specs.Calls.{FileReply, NotReady, Refused}
+use Rattle.py_flat.specs.Calls.{FileReply, Count, NotReady, Write, Refused}
 use Rattle.py_flat.specs.Causes.{Rose}
 use Rattle.py_plain_text.specs.TextFile.{TextPlace, TextFile}
 use Rattle.py_plain_text.specs.TextOver.{TextOver}
@@ -14,7 +14,7 @@ use Rattle.py_plain_text.specs.TextWriting.{writes_texts}
 use Rattle.py_raw.specs.RawStream.{AnswersFor}
 use Rattle.py_stream.specs.Stream.{size_of}
 use Rattle.py_stream.specs.Writing.{IsFull}
-use Rattle.py_stream.specs.Buffer.{Buffer, WhereShown, flat_of, size_shown, stream_shown, KeepsBuffer}
+use Rattle.py_stream.specs.Buffer.{Buffer, WhereShown, flat_of, size_shown, stream_shown, AnswersAsBuffer, KeepsBuffer}
 use Rattle.py_read_text.specs.TextState.{TextState, file_of}
 use Rattle.py_read_text.specs.Knowing.{TextView, place_of, over_of as read_of, IsClean}
 use Rattle.py_read_text.specs.Owing.{all_owed, IsJoined, PassesOwed, LaysOwed, FailedWithOwn, GaveOwn, StopsOwing, KeepsOpen}
@@ -107,10 +107,14 @@ pub record TakesNothing (old new : WrittenView) : Type 0 where
 abbrev pub IsStuffed : Buffer → Type 0
 IsStuffed buffer = IsFull buffer.owed buffer.place (size_of (stream_shown buffer))
 
+-- the buffer took all that the text owed by one write
+abbrev pub TookPending : WrittenView → WrittenView → Type 0
+TookPending old new = AnswersAsBuffer old.text.buffer (Write old.pending) (Count (length old.pending)) new.text.buffer
+
 -- the buffer took all that the text owed; or the raw would have blocked, or failed, or memory ran out: what wasn't taken is owed still. Out
 -- of memory nothing was taken, but of a text that failed with its buffer. A buffer that couldn't take all is full
 abbrev pub SettleOutcome : WrittenView → Result (Unit {0}) IoFault → WrittenView → Type 0
-SettleOutcome old (Ok done) new = HandsOn old false false new × (new.pending ≡ []) × (new.life ≡ life.Live)
+SettleOutcome old (Ok done) new = HandsOn old false false new × (new.pending ≡ []) × (new.life ≡ life.Live) × TookPending old new
 SettleOutcome old (Err (fault.WouldBlock taken)) new = HandsOn old true false new × (new.pending ≢ []) × (new.life ≡ life.Live) × (old.text.buffer.can.writable ≡ true) × IsStuffed new.text.buffer
 SettleOutcome old (Err fault.RawFault) new = HandsOn old false true new × (new.life ≡ life.Failed)
 SettleOutcome old (Err fault.NoMemory) new = HandsOn old false false new × IsTrue old.text.buffer.raw.takes_memory × (TakesNothing old new ⊎ ((new.life ≡ life.Failed) × (old.text.buffer.can.writable ≡ true) × FailedWithOwn (over_of old) (over_of new)))
@@ -197,3 +201,8 @@ HandOutcome old count flushes (Err other) new = ⊥
 abbrev pub KeepsOwed : WrittenView → (flushes : Bool) → Result (Unit {0}) IoFault → WrittenView → Type 0
 KeepsOwed old flushes (Ok done) new = old.text.settings.write_through ≡ false → flushes ≡ false → length old.pending < old.text.settings.chunk_size → new ≡ old
 KeepsOwed old flushes (Err why) new = Unit {0}
+
+-- where no flush is to follow nothing is handed on, or all by one write of the buffer
+abbrev pub HandsOnOnce : WrittenView → (flushes : Bool) → Result (Unit {0}) IoFault → WrittenView → Type 0
+HandsOnOnce old flushes (Ok done) new = flushes ≡ false → (new ≡ old) ⊎ ((new.pending ≡ []) × TookPending old new)
+HandsOnOnce old flushes (Err why) new = Unit {0}

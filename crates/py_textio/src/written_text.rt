@@ -13,7 +13,7 @@ ghost use Rattle.py_read_text.specs.Reading.{call_of, asks_none, reply_of, waite
 ghost use Rattle.py_read_text.specs.Owing.{IsJoined, has_line_end};
 ghost use Rattle.py_read_text.specs.Knowing.{over_of as read_of};
 ghost use Rattle.py_read_text.specs.Answers.{Answers};
-ghost use Rattle.py_textio.specs.Written.{over_of, state_of, file_now, place_now, HasRoom, StandsToWrite, SettleOutcome, stopped_reply, with_taken, RoomFor, BackOutcome, PassOutcome, HandOutcome, KeepsOwed};
+ghost use Rattle.py_textio.specs.Written.{over_of, state_of, file_now, place_now, HasRoom, StandsToWrite, SettleOutcome, stopped_reply, with_taken, RoomFor, BackOutcome, PassOutcome, HandOutcome, KeepsOwed, HandsOnOnce};
 
 use py_flat::{IoFault, Life};
 use py_held_text::{Coder, Wanted, drop_front};
@@ -463,6 +463,7 @@ impl<B: BufferedStream> WrittenText<B> {
         requires some { flushes ≡ true → self.old.pending ≢ [] }
         ensures outcome { HandOutcome self.old count flushes result self.new }
         ensures keeps { KeepsOwed self.old flushes result self.new }
+        ensures once { HandsOnOnce self.old flushes result self.new }
         ensures joined { IsJoined (over_of self.new) }
     {
         // What holds of every text is known from here on.
@@ -492,6 +493,7 @@ impl<B: BufferedStream> WrittenText<B> {
         requires none { self.old.pending ≡ [] }
         requires writes { self.old.text.buffer.can.writable ≡ true }
         ensures outcome { PassOutcome self.old count flushes result self.new }
+        ensures still { flushes ≡ false → self.new ≡ self.old }
         ensures joined { IsJoined (over_of self.new) }
     {
         // What holds of every text is known from here on.

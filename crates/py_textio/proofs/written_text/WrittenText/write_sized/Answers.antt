@@ -1,5 +1,5 @@
 use Rattle.std.proofs.Common.{chars, Ok, Err, sym, ◌∙◌}
-use Rattle.py_textio.proofs.Writing.{may_write, write_far, put_is, put_some, unput, hand_at, keeps_at, written_all, written_on, written_not}
+use Rattle.py_textio.proofs.Writing.{may_write, write_far, put_is, put_some, unput, hand_at, keeps_at, once_at, written_all, written_on, written_not}
 use Rattle.py_textio.proofs.Settling.{then_second}
 use Rattle.py_textio.proofs.written_text.WrittenText.write_sized.Goals as goal
 
@@ -12,7 +12,7 @@ returns-in-Ok-hand_on g c =
     let may = may_write c.args.self.now (chars c.args.text.now) c.requires.live c.requires.writes c.requires.clean c.requires.whole (rw c.requires.bytes at c.in-Some.ensures.1) in
     let back = c.in-Ok.ensures.outcome in
     let put = put_is c.args.self.now c.go_back.new.self c.put.new.self (chars c.args.text.now) back c.in-Ok-put.ensures.put in
-    written_all c.args.self.now c.go_back.new.self c.hand_on.new.self (chars c.args.text.now) c.put.new.self.room c.in-Some.bytes c.args.size.chars may back c.requires.chars (hand_at c.put.new.self _ c.hand_on.new.self c.in-Some.bytes c.flushes-flushes.result _ (Ok c.in-Ok-hand_on.field-0) put c.flushes-flushes.ensures c.in-Ok-hand_on.ensures.outcome) (keeps_at c.put.new.self _ c.hand_on.new.self c.flushes-flushes.result _ (Ok c.in-Ok-hand_on.field-0) put c.flushes-flushes.ensures c.in-Ok-hand_on.ensures.keeps) c.in-Ok-hand_on.ensures.joined
+    written_all c.args.self.now c.go_back.new.self c.hand_on.new.self (chars c.args.text.now) c.put.new.self.room c.in-Some.bytes c.args.size.chars may back c.requires.chars (hand_at c.put.new.self _ c.hand_on.new.self c.in-Some.bytes c.flushes-flushes.result _ (Ok c.in-Ok-hand_on.field-0) put c.flushes-flushes.ensures c.in-Ok-hand_on.ensures.outcome) (keeps_at c.put.new.self _ c.hand_on.new.self c.flushes-flushes.result _ (Ok c.in-Ok-hand_on.field-0) put c.flushes-flushes.ensures c.in-Ok-hand_on.ensures.keeps) (once_at c.put.new.self _ c.hand_on.new.self c.flushes-flushes.result _ (Ok c.in-Ok-hand_on.field-0) put c.flushes-flushes.ensures c.in-Ok-hand_on.ensures.once) c.in-Ok-hand_on.ensures.joined
 
 pub returns-in-Err-hand_on : goal.returns-in-Err-hand_on
 returns-in-Err-hand_on g c =
