@@ -1,12 +1,9 @@
 ghost use Rattle.std.specs.Prelude.{◌≡◌, ◌+◌, ◌≤◌, ◌&&◌, ℕ, Bool, true, false, nat_eq, [], ◌∷◌, length};
 ghost use Rattle.py_flat.specs.Limits.{greatest_place};
 ghost use Rattle.py_plain.specs.Handlers.{reads_texts};
-ghost use Rattle.py_plain_text.specs.TextFile.{TextFile};
 ghost use Rattle.py_plain_text.specs.CookieView.{cookie_shown};
-ghost use Rattle.py_plain_text.specs.Telling.{told};
 ghost use Rattle.py_telling.specs.Spots.{at_byte, adds, holds, behind_lf, spot_behind, items_from};
-ghost use Rattle.py_telling.specs.InHand.{surely_given, StandsBehind, LieIn};
-ghost use Rattle.py_telling.specs.ToldView.{spot_shown, told_shown, IsTold};
+ghost use Rattle.py_telling.specs.ToldView.{spot_shown, told_shown, IsTold, IsToldAmong};
 
 use crate::seen_item::{SeenItem, first_seen};
 use py_plain::{Encoding, Handler, Newlines};
@@ -117,7 +114,7 @@ fn spot_among(
     newline: Newlines,
     bytes: &[u8],
     place: u64,
-    given: usize,
+    given: u128,
     last: bool,
 ) -> Told
     requires reads { reads_texts handler ≡ true }
@@ -134,19 +131,19 @@ fn spot_among(
         }
         match first_seen(encoding, handler, &bytes[at..], last) {
             SeenItem::Character { character, used } => {
-                left -= added(held, character);
+                left -= added(held, character) as u128;
                 held = is_held(newline, character);
                 at += used;
             }
             SeenItem::Replaced { count, used } => {
-                if left < count {
+                if left < count as u128 {
                     return Told {
                         start: place + at as u64,
                         length: used,
-                        skipped: left,
+                        skipped: left as usize,
                     };
                 }
-                left -= count;
+                left -= count as u128;
                 held = stays_held(held, count);
                 at += used;
             }
@@ -170,14 +167,12 @@ pub fn told_among(
     newline: Newlines,
     bytes: &[u8],
     place: u64,
-    given: usize,
+    given: u128,
     last: bool,
 ) -> Told
     requires reads { reads_texts handler ≡ true }
     requires near { place + length bytes.now ≤ greatest_place }
-    ensures told { given ≤ length (surely_given encoding handler newline last bytes.now)
-        → (file : TextFile) → StandsBehind encoding handler newline place given file → LieIn last place bytes.now file
-        → told_shown result ≡ told file }
+    ensures told { IsToldAmong encoding handler newline last place given bytes.now result }
     ensures within { IsTold result }
 {
     spot_among(encoding, handler, newline, bytes, place, given, last)

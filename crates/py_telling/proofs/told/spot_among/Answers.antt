@@ -13,7 +13,7 @@ loop-left-preserved-in-Character c =
     record {
       within = omega arith;
       spot =
-          rw (c.added-left.ensures.adds, c.is_held-held.ensures c.loop-left.held)
+          rw (c.added.ensures.adds, c.is_held-held.ensures c.loop-left.held)
           (spot_character c.args.encoding c.args.handler c.args.newline c.args.last c.args.place c.loop-left.at c.args.bytes.now c.loop-left.left c.loop-left.held c.in-Character.character c.in-Character.used (omega arith) within.0 (omega arith) shows
           ∙ c.loop-left.invariant.spot);
     }
