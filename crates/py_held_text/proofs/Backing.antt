@@ -2,7 +2,11 @@
 use Rattle.std.proofs.Common.{◌≡◌, ℕ, ◌+◌, ◌-◌, ◌*◌, ◌≤◌, ◌||◌, Bool, true, false, nat_eq, nat_lt, if◌then◌else◌, List, [], ◌++◌, length as len, take, drop, Option, Some, None, IfSome, ap, subst, ◌∙◌, sym, arith}
 use Rattle.std.proofs.lemmas.List.{length-append, length-drop, length-take-le, drop-drop, drop-take, take-append-drop}
 use Rattle.std.proofs.Math.Seq.{take-add}
+use Rattle.py_plain.specs.declared.encoding.Encoding.{Encoding}
+use Rattle.py_plain.specs.declared.handler.Handler.{Handler}
 use Rattle.py_plain.specs.declared.newlines.Newlines.{Newlines}
+use Rattle.py_telling.specs.declared.told.Told.{Told}
+use Rattle.py_telling.specs.ToldView.{IsToldAmong}
 use Rattle.py_plain.specs.NewlineRule.{read_so_far}
 use Rattle.py_text.specs.declared.coder.Coder.{Coder}
 use Rattle.py_held_text.specs.declared.base.Mark.{Mark}
@@ -74,6 +78,13 @@ given-by coder known after items items_now gone decoded given place room old_roo
     ∙ (ap (λ (all : List ℕ). held-by coder rest (back_of (gone + base.passed) decoded all) base.given base.mark (drop decoded all) place room) items_are
     ∙ (ap (λ (b : BaseMove). held-by coder rest (back_of (gone + b.passed) decoded items) b.given b.mark (drop decoded items) place room) base_is
     ∙ ap (λ (b : List ℕ). held-by coder rest b own.given own.mark (drop decoded items) place room) (back-passed gone decoded own.passed items fits)))
+
+-- what is told of the bytes from the base on
+pub told-by : (encoding : Encoding) (handler : Handler) (newline rule : Newlines) (last : Bool) (gone decoded place given : ℕ) (items bytes : List ℕ) (told : Told) → gone ≤ decoded → decoded ≤ len items → rule ≡ newline → bytes ≡ drop gone items → IsToldAmong encoding handler rule last (place - (decoded - gone)) given bytes told → IsToldAmong encoding handler newline last (place - len (back_of gone decoded items)) given (back_of gone decoded items ++ drop decoded items) told
+told-by encoding handler newline rule last gone decoded place given items bytes told from within rule_is bytes_are is =
+    subst (λ (n : ℕ). IsToldAmong encoding handler newline last (place - n) given (back_of gone decoded items ++ drop decoded items) told) (sym (back-length gone decoded items from within))
+    (subst (λ (b : List ℕ). IsToldAmong encoding handler newline last (place - (decoded - gone)) given b told) (bytes_are ∙ back-whole gone decoded items from)
+    (subst (λ (n : Newlines). IsToldAmong encoding handler n last (place - (decoded - gone)) given bytes told) rule_is is))
 
 -- How many characters.
 

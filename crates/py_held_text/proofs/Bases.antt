@@ -1,5 +1,5 @@
 -- What is known of the base and of the mark stays so.
-use Rattle.std.proofs.Common.{◌≡◌, ℕ, ◌+◌, ◌-◌, ◌≤◌, ◌||◌, Bool, true, false, nat_eq, nat_lt, if◌then◌else◌, List, [], ◌++◌, length, take, drop, Option, Some, None, IfSome, refl, sym, ap, subst, ◌∙◌, arith}
+use Rattle.std.proofs.Common.{◌≡◌, ℕ, ◌+◌, ◌-◌, ◌≤◌, ◌<◌, ◌||◌, Bool, true, false, nat_eq, nat_lt, if◌then◌else◌, List, [], ◌++◌, length, take, drop, ◌⊎◌, inl, inr, Option, Some, None, IfSome, refl, sym, ap, subst, ◌∙◌, arith}
 use Rattle.std.proofs.lemmas.Bool.{ltb-true, ltb-false}
 use Rattle.std.proofs.lemmas.List.{append_assoc, length-append, length-drop, length-take-le, take-append-drop, drop-append-le, drop-drop}
 use Rattle.std.proofs.Math.Seq.{drop-append_seam}
@@ -14,10 +14,10 @@ use Rattle.py_plain.specs.NewlineRule.{read_so_far, read_all}
 use Rattle.py_plain_text.specs.Rest.{Rest}
 use Rattle.py_held_text.specs.declared.base.Mark.{Mark}
 use Rattle.py_held_text.specs.declared.base.BaseMove.{BaseMove}
-use Rattle.py_held_text.proofs.Marking.{either-mark, no-cr}
 use Rattle.py_held_text.specs.Held.{HeldView, ahead, base_of, whole_of, comes_next, base_behind, given_on, left_with, left_so_far}
+use Rattle.py_held_text.proofs.Marking.{either-mark, no-cr}
 use Rattle.py_held_text.specs.Decodes.{KeepsSettings, Passes, Decodes}
-use Rattle.py_held_text.specs.Bases.{from_base, rebased, with_gone, without, IsBack, KnowsBase, MarkStands, KnowsMark, ShowsBase, MarkShows, ShowsMark}
+use Rattle.py_held_text.specs.Bases.{from_base, rebased, with_gone, without, IsBack, KnowsBase, MarkStands, KnowsBases, ShowsBase, MarkShows, ShowsBases}
 use Rattle.py_held_text.proofs.Walking.{both-before}
 
 -- Items.
@@ -59,38 +59,42 @@ left-same old new passed same more = ap (λ (held : HeldView). left_with held mo
 so-far-same : (old new : HeldView) (passed : ℕ) → SameBase old new → (more : List ℕ) → left_so_far (from_base new passed) more ≡ left_so_far (from_base old passed) more
 so-far-same old new passed same more = ap (λ (held : HeldView). left_so_far held more) (from-same old new passed same)
 
-ahead-same : (old new : HeldView) (passed : ℕ) → SameBase old new → (more : List ℕ) → ahead (from_base new passed) true more ≡ ahead (from_base old passed) true more
+pub ahead-same : (old new : HeldView) (passed : ℕ) → SameBase old new → (more : List ℕ) → ahead (from_base new passed) true more ≡ ahead (from_base old passed) true more
 ahead-same old new passed same more = ap (λ (held : HeldView). ahead held true more) (from-same old new passed same)
 
 -- What is in hand was looked at.
 
-pub base-follows : (Behind : List ℕ → Type 0) (old new : HeldView) (gone : List ℕ) → SameBase old new → new.given ≡ old.given → ((more : List ℕ) → Behind more → left_with new more ≡ left_with old more) → ((more : List ℕ) → Behind more → Passes old new more) → KnowsBase Behind old gone → KnowsBase Behind new gone
-base-follows Behind old new gone same given left items is = record {
-  count = is.count ∙ sym given;
-  left = λ more may. left-same old new 0 same more ∙ (is.left more may ∙ ap (with_gone gone) (sym (left more may)));
-  items = λ more may.
-      let both = passes-both (rebased old) old new more (is.items more may) (items more may) in
-      (both.0, ahead-same old new 0 same more ∙ both.1);
-}
+pub base-follows : (more : List ℕ) (old new : HeldView) (gone : List ℕ) → SameBase old new → new.given ≡ old.given → left_with new more ≡ left_with old more → Passes old new more → KnowsBase more old gone → KnowsBase more new gone
+base-follows more old new gone same given left items is =
+    let both = passes-both (rebased old) old new more is.items items in
+    record {
+      count = is.count ∙ sym given;
+      left = left-same old new 0 same more ∙ (is.left ∙ ap (with_gone gone) (sym left));
+      items = (both.0, ahead-same old new 0 same more ∙ both.1);
+    }
 
-mark-follows : (Behind : List ℕ → Type 0) (old new : HeldView) (mark : Mark) → SameBase old new → length old.known ≤ length new.known → length old.back ≤ length new.back → ((more : List ℕ) → Behind more → left_with new more ≡ left_with old more) → ((more : List ℕ) → Behind more → Passes old new more) → MarkStands Behind old mark → MarkStands Behind new mark
-mark-follows Behind old new mark same grows further left items is = record {
-  count = omega (arith, is.count, grows);
-  passed = omega (arith, is.passed, further);
-  left = λ more may. left-same old new mark.passed same more ∙ (is.left more may ∙ ap (without mark.count) (sym (left more may)));
-  before = λ more may. let own = is.before more may in (own.0, ahead-same old new 0 same more ∙ (own.1 ∙ ap (items_before own.0) (sym (ahead-same old new mark.passed same more))));
-  behind = λ more may.
-      let both = passes-both (from_base old mark.passed) old new more (is.behind more may) (items more may) in
-      (both.0, ahead-same old new mark.passed same more ∙ both.1);
-}
+mark-follows : (more : List ℕ) (old new : HeldView) (mark : Mark) → SameBase old new → length old.known ≤ length new.known → length old.back ≤ length new.back → left_with new more ≡ left_with old more → Passes old new more → MarkStands more old mark → MarkStands more new mark
+mark-follows more old new mark same grows further left items is =
+    let both = passes-both (from_base old mark.passed) old new more is.behind items in
+    record {
+      count = omega (arith, is.count, grows);
+      passed = omega (arith, is.passed, further);
+      left = left-same old new mark.passed same more ∙ (is.left ∙ ap (without mark.count) (sym left));
+      before = (is.before.0, ahead-same old new 0 same more ∙ (is.before.1 ∙ ap (items_before is.before.0) (sym (ahead-same old new mark.passed same more))));
+      behind = (both.0, ahead-same old new mark.passed same more ∙ both.1);
+    }
 
--- a mark stays where it is
-pub marks-follow : (Behind : List ℕ → Type 0) (old new : HeldView) → SameBase old new → new.mark ≡ old.mark → length old.known ≤ length new.known → length old.back ≤ length new.back → ((more : List ℕ) → Behind more → left_with new more ≡ left_with old more) → ((more : List ℕ) → Behind more → Passes old new more) → KnowsMark Behind old → KnowsMark Behind new
-marks-follow Behind old new same stays grows further left items is = subst (λ (mark : Option Mark). IfSome mark (MarkStands Behind new)) (sym stays) (by-mark old.mark is)
-  where
-    by-mark : (mark : Option Mark) → IfSome mark (MarkStands Behind old) → IfSome mark (MarkStands Behind new)
-    by-mark None own = tt
-    by-mark (Some mark) own = mark-follows Behind old new mark same grows further left items own
+marks-follow : (more : List ℕ) (old new : HeldView) (mark : Option Mark) → SameBase old new → length old.known ≤ length new.known → length old.back ≤ length new.back → left_with new more ≡ left_with old more → Passes old new more → IfSome mark (MarkStands more old) → IfSome mark (MarkStands more new)
+marks-follow more old new None same grows further left items is = tt
+marks-follow more old new (Some mark) same grows further left items is = mark-follows more old new mark same grows further left items is
+
+-- a CR that was held was given as an LF, or room was taken: no byte was decoded, and what is left stays
+pub bases-follow : (more : List ℕ) (old new : HeldView) (gone : List ℕ) → SameBase old new → new.place ≡ old.place → new.back ≡ old.back → new.given ≡ old.given → new.mark ≡ old.mark → length old.known ≤ length new.known → left_with new more ≡ left_with old more → Passes old new more → KnowsBases more old gone → KnowsBases more new gone
+bases-follow more old new gone same place back given mark grows left items is = record {
+  back = omega (arith, is.back, ap length back, place);
+  base = base-follows more old new gone same given left items is.base;
+  mark = subst (λ (own : Option Mark). IfSome own (MarkStands more new)) (sym mark) (marks-follow more old new old.mark same grows (omega (arith, ap length back)) left items is.mark);
+}
 
 -- Nothing is known yet.
 
@@ -102,15 +106,19 @@ rebased-nothing start =
     let here : (start.place - 0) + 0 ≡ start.place = omega arith in
     ap (λ (place : ℕ). from-there start.encoding start.handler start.newline start.order place start.bytes start.room) here
 
-pub base-nothing : (Behind : List ℕ → Type 0) (start : HeldView) → KnowsBase Behind (nothing-from start) []
-base-nothing Behind start = record {
-  count = refl;
-  left = λ more may. ap (λ (held : HeldView). left_with held more) (rebased-nothing start);
-  items = λ more may. ([], ap (λ (held : HeldView). ahead held true more) (rebased-nothing start));
+pub bases-nothing : (more : List ℕ) (start : HeldView) → KnowsBases more (nothing-from start) []
+bases-nothing more start = record {
+  back = omega arith;
+  base = record {
+    count = refl;
+    left = ap (λ (held : HeldView). left_with held more) (rebased-nothing start);
+    items = ([], ap (λ (held : HeldView). ahead held true more) (rebased-nothing start));
+  };
+  mark = tt;
 }
 
-pub shows-nothing : (Behind : List ℕ → Type 0) (start : HeldView) → ShowsBase Behind (nothing-from start) []
-shows-nothing Behind start more may = ap (λ (held : HeldView). left_so_far held more) (rebased-nothing start)
+pub shows-nothing : (more : List ℕ) (start : HeldView) → ShowsBases more (nothing-from start) []
+shows-nothing more start = record { back = omega arith; base = ap (λ (held : HeldView). left_so_far held more) (rebased-nothing start); mark = tt }
 
 -- Bytes were decoded.
 
@@ -127,14 +135,6 @@ same-decoded last old new decodes = record {
   base = omega (arith, back-grows last old new decodes, decodes.place);
   whole = decodes.whole;
 }
-
-pub base-decoded : (Behind : List ℕ → Type 0) (last : Bool) (old new : HeldView) (gone : List ℕ) → ((more : List ℕ) → Behind more → last ≡ true → more ≡ []) → Decodes last old new → KnowsBase Behind old gone → KnowsBase Behind new gone
-base-decoded Behind last old new gone ends decodes =
-    base-follows Behind old new gone (same-decoded last old new decodes) decodes.given (λ more may. decodes.left more (ends more may)) (λ more may. decodes.items more (ends more may))
-
-pub shows-decoded : (Behind : List ℕ → Type 0) (old new : HeldView) (gone : List ℕ) → Decodes false old new → ShowsBase Behind old gone → ShowsBase Behind new gone
-shows-decoded Behind old new gone decodes is more may =
-    so-far-same old new 0 (same-decoded false old new decodes) more ∙ (is more may ∙ ap (with_gone gone) (sym (decodes.so_far refl more)))
 
 -- the place behind the bytes that were decoded
 from-here : (held : HeldView) → IsBack held → from_base held (length held.back) ≡ from-there held.encoding held.handler held.newline held.order held.place held.bytes held.room
@@ -167,46 +167,49 @@ ahead-here : (held : HeldView) → IsBack held → (more : List ℕ) → ahead (
 ahead-here held behind more = ap (λ (own : HeldView). ahead own true more) (from-here held behind)
 
 -- a mark that was set before bytes were decoded
-new-mark : (Behind : List ℕ → Type 0) (last : Bool) (old new : HeldView) (gone : List ℕ) → ((more : List ℕ) → Behind more → last ≡ true → more ≡ []) → IsBack old → old.cr ≡ false → Decodes last old new → KnowsBase Behind old gone → MarkStands Behind new (record { count = length old.known; passed = length old.back })
-new-mark Behind last old new gone ends behind none decodes is =
+new-mark : (more : List ℕ) (last : Bool) (old new : HeldView) (gone : List ℕ) → (last ≡ true → more ≡ []) → IsBack old → old.cr ≡ false → Decodes last old new → KnowsBase more old gone → MarkStands more new (record { count = length old.known; passed = length old.back })
+new-mark more last old new gone ends behind none decodes is =
     let same = same-decoded last old new decodes in
     let there : ℕ = length old.back in
-    let seen : (more : List ℕ) → ahead (from_base new there) true more ≡ ahead old true more = λ more. ahead-same old new there same more ∙ ahead-here old behind more in
+    let seen : ahead (from_base new there) true more ≡ ahead old true more = ahead-same old new there same more ∙ ahead-here old behind more in
+    let items = decodes.items more ends in
     record {
       count = known-grows last old new decodes;
       passed = omega (arith, back-grows last old new decodes);
-      left = λ more may. left-same old new there same more ∙ (left-here old behind none more ∙ ap (without (length old.known)) (sym (decodes.left more (ends more may))));
-      before = λ more may. let own = is.items more may in (own.0, ahead-same old new 0 same more ∙ (own.1 ∙ ap (items_before own.0) (sym (seen more))));
-      behind = λ more may. let own = decodes.items more (ends more may) in (own.0, seen more ∙ own.1);
+      left = left-same old new there same more ∙ (left-here old behind none more ∙ ap (without (length old.known)) (sym (decodes.left more ends)));
+      before = (is.items.0, ahead-same old new 0 same more ∙ (is.items.1 ∙ ap (items_before is.items.0) (sym seen)));
+      behind = (items.0, seen ∙ items.1);
     }
 
-pub mark-decoded : (Behind : List ℕ → Type 0) (last : Bool) (old new : HeldView) (gone : List ℕ) → ((more : List ℕ) → Behind more → last ≡ true → more ≡ []) → IsBack old → Decodes last old new → KnowsBase Behind old gone → KnowsMark Behind old → KnowsMark Behind new
-mark-decoded Behind last old new gone ends behind decodes is marked =
-    subst (λ (mark : Option Mark). IfSome mark (MarkStands Behind new)) (sym decodes.mark)
-    (either-mark (MarkStands Behind new) ((old.cr || nat_eq (length old.back) 0) || comes_next old.mark) old.mark (record { count = length old.known; passed = length old.back })
-    (kept old.mark marked)
-    (λ sets. new-mark Behind last old new gone ends behind (no-cr old.cr (nat_eq (length old.back) 0) (comes_next old.mark) sets) decodes is))
-  where
-    kept : (mark : Option Mark) → IfSome mark (MarkStands Behind old) → IfSome mark (MarkStands Behind new)
-    kept None own = tt
-    kept (Some mark) own = mark-follows Behind old new mark (same-decoded last old new decodes) (known-grows last old new decodes) (omega (arith, back-grows last old new decodes)) (λ more may. decodes.left more (ends more may)) (λ more may. decodes.items more (ends more may)) own
+pub bases-decoded : (more : List ℕ) (last : Bool) (old new : HeldView) (gone : List ℕ) → (last ≡ true → more ≡ []) → Decodes last old new → KnowsBases more old gone → KnowsBases more new gone
+bases-decoded more last old new gone ends decodes is = record {
+  back = omega (arith, back-grows last old new decodes, decodes.place, is.back);
+  base = base-follows more old new gone (same-decoded last old new decodes) decodes.given (decodes.left more ends) (decodes.items more ends) is.base;
+  mark = subst (λ (mark : Option Mark). IfSome mark (MarkStands more new)) (sym decodes.mark)
+      (either-mark (MarkStands more new) ((old.cr || nat_eq (length old.back) 0) || comes_next old.mark) old.mark (record { count = length old.known; passed = length old.back })
+      (marks-follow more old new old.mark (same-decoded last old new decodes) (known-grows last old new decodes) (omega (arith, back-grows last old new decodes)) (decodes.left more ends) (decodes.items more ends) is.mark)
+      (λ sets. new-mark more last old new gone ends is.back (no-cr old.cr (nat_eq (length old.back) 0) (comes_next old.mark) sets) decodes is.base));
+}
 
-pub mark-shows-decoded : (Behind : List ℕ → Type 0) (old new : HeldView) → IsBack old → Decodes false old new → ShowsMark Behind old → ShowsMark Behind new
-mark-shows-decoded Behind old new behind decodes marked =
-    subst (λ (mark : Option Mark). IfSome mark (MarkShows Behind new)) (sym decodes.mark)
-    (either-mark (MarkShows Behind new) ((old.cr || nat_eq (length old.back) 0) || comes_next old.mark) old.mark (record { count = length old.known; passed = length old.back })
-    (kept old.mark marked)
-    (λ sets more may. so-far-same old new (length old.back) same more ∙ (so-far-here old behind (no-cr old.cr (nat_eq (length old.back) 0) (comes_next old.mark) sets) more ∙ ap (without (length old.known)) (sym (decodes.so_far refl more)))))
+abbrev MarkShown : (more : List ℕ) → HeldView → Mark → Type 0
+MarkShown more held mark = (mark.passed ≤ length held.back) × MarkShows more held mark
+
+pub shows-decoded : (more : List ℕ) (old new : HeldView) (gone : List ℕ) → Decodes false old new → ShowsBases more old gone → ShowsBases more new gone
+shows-decoded more old new gone decodes is = record {
+  back = omega (arith, back-grows false old new decodes, decodes.place, is.back);
+  base = so-far-same old new 0 same more ∙ (is.base ∙ ap (with_gone gone) (sym (decodes.so_far refl more)));
+  mark = subst (λ (mark : Option Mark). IfSome mark (MarkShown more new)) (sym decodes.mark)
+      (either-mark (MarkShown more new) ((old.cr || nat_eq (length old.back) 0) || comes_next old.mark) old.mark (record { count = length old.known; passed = length old.back })
+      (kept old.mark is.mark)
+      (λ sets. (omega (arith, back-grows false old new decodes), so-far-same old new (length old.back) same more ∙ (so-far-here old is.back (no-cr old.cr (nat_eq (length old.back) 0) (comes_next old.mark) sets) more ∙ ap (without (length old.known)) (sym (decodes.so_far refl more))))));
+}
   where
     same : SameBase old new
     same = same-decoded false old new decodes
 
-    kept : (mark : Option Mark) → IfSome mark (MarkShows Behind old) → IfSome mark (MarkShows Behind new)
+    kept : (mark : Option Mark) → IfSome mark (MarkShown more old) → IfSome mark (MarkShown more new)
     kept None own = tt
-    kept (Some mark) own = λ more may. so-far-same old new mark.passed same more ∙ (own more may ∙ ap (without mark.count) (sym (decodes.so_far refl more)))
-
-pub back-decoded : (last : Bool) (old new : HeldView) → Decodes last old new → IsBack old → IsBack new
-back-decoded last old new decodes behind = omega (arith, back-grows last old new decodes, decodes.place, behind)
+    kept (Some mark) own = (omega (arith, back-grows false old new decodes, own.0), so-far-same old new mark.passed same more ∙ (own.1 ∙ ap (without mark.count) (sym (decodes.so_far refl more))))
 
 -- Characters were given.
 
@@ -235,59 +238,50 @@ given-past-mark known rest mark count within past =
 abbrev gave : (count : ℕ) → BaseMove → (room : ℕ) → HeldView → HeldView
 gave count base room held = record held { known = drop count held.known; back = drop base.passed held.back; given = base.given; mark = base.mark; room = room }
 
--- the characters that were given since the base, and what is known of base and mark then
-pub record GivenOn (Behind : List ℕ → Type 0) (new : HeldView) : Type 0 where
-  pub gone : List ℕ
-  pub back : IsBack new
-  pub base : KnowsBase Behind new gone
-  pub mark : KnowsMark Behind new
-
--- the same of what is surely left
-pub record ShownOn (Behind : List ℕ → Type 0) (new : HeldView) : Type 0 where
-  pub gone : List ℕ
-  pub base : ShowsBase Behind new gone
-  pub mark : ShowsMark Behind new
-
 -- the base stays
 abbrev stays : HeldView → (count : ℕ) → Option Mark → BaseMove
 stays held count mark = record { passed = 0; given = held.given + count; mark = mark }
 
-base-stays : (Behind : List ℕ → Type 0) (held : HeldView) (gone : List ℕ) (count room : ℕ) (mark : Option Mark) → count ≤ length held.known → KnowsBase Behind held gone → KnowsBase Behind (gave count (stays held count mark) room held) (gone ++ take count held.known)
-base-stays Behind held gone count room mark within is = record {
-  count = omega (arith, is.count, length-append gone (take count held.known), length-take-le count held.known within);
-  left = λ more may.
-      let sure : List ℕ = read_all held.newline held.cr (characters_of (ahead held true more).items) in
-      is.left more may ∙ ap (λ (cs : List ℕ). rest-of cs (refusal_of (ahead held true more).ending)) (given-before gone held.known sure count);
-  items = λ more may. is.items more may;
-}
+base-stays : (more : List ℕ) (held : HeldView) (gone : List ℕ) (count room : ℕ) (mark : Option Mark) → count ≤ length held.known → KnowsBase more held gone → KnowsBase more (gave count (stays held count mark) room held) (gone ++ take count held.known)
+base-stays more held gone count room mark within is =
+    let sure : List ℕ = read_all held.newline held.cr (characters_of (ahead held true more).items) in
+    record {
+      count = omega (arith, is.count, length-append gone (take count held.known), length-take-le count held.known within);
+      left = is.left ∙ ap (λ (cs : List ℕ). rest-of cs (refusal_of (ahead held true more).ending)) (given-before gone held.known sure count);
+      items = is.items;
+    }
 
-shows-stays : (Behind : List ℕ → Type 0) (held : HeldView) (gone : List ℕ) (count room : ℕ) (mark : Option Mark) → ShowsBase Behind held gone → ShowsBase Behind (gave count (stays held count mark) room held) (gone ++ take count held.known)
-shows-stays Behind held gone count room mark is more may =
+shows-stays : (more : List ℕ) (held : HeldView) (gone : List ℕ) (count room : ℕ) (mark : Option Mark) → ShowsBase more held gone → ShowsBase more (gave count (stays held count mark) room held) (gone ++ take count held.known)
+shows-stays more held gone count room mark is =
     let sure : List ℕ = read_so_far held.newline held.cr (characters_of (ahead held false more).items) in
-    is more may ∙ ap (λ (cs : List ℕ). rest-of cs (refusal_of (ahead held false more).ending)) (given-before gone held.known sure count)
+    is ∙ ap (λ (cs : List ℕ). rest-of cs (refusal_of (ahead held false more).ending)) (given-before gone held.known sure count)
 
 abbrev nearer : ℕ → Mark → Mark
 nearer count mark = record mark { count = mark.count - count }
 
-mark-stays : (Behind : List ℕ → Type 0) (held : HeldView) (count room : ℕ) (mark : Mark) → count ≤ length held.known → count ≤ mark.count → MarkStands Behind held mark → MarkStands Behind (gave count (stays held count (Some (nearer count mark))) room held) (nearer count mark)
-mark-stays Behind held count room mark within before is = record {
-  count = omega (arith, is.count, length-drop count held.known);
-  passed = is.passed;
-  left = λ more may.
-      let sure : List ℕ = read_all held.newline held.cr (characters_of (ahead held true more).items) in
-      is.left more may ∙ ap (λ (cs : List ℕ). rest-of cs (refusal_of (ahead held true more).ending)) (given-to-mark held.known sure mark.count count within before);
-  before = λ more may. is.before more may;
-  behind = λ more may. is.behind more may;
-}
+mark-stays : (more : List ℕ) (held : HeldView) (count room : ℕ) (mark : Mark) → count ≤ length held.known → count ≤ mark.count → MarkStands more held mark → MarkStands more (gave count (stays held count (Some (nearer count mark))) room held) (nearer count mark)
+mark-stays more held count room mark within before is =
+    let sure : List ℕ = read_all held.newline held.cr (characters_of (ahead held true more).items) in
+    record {
+      count = omega (arith, is.count, length-drop count held.known);
+      passed = is.passed;
+      left = is.left ∙ ap (λ (cs : List ℕ). rest-of cs (refusal_of (ahead held true more).ending)) (given-to-mark held.known sure mark.count count within before);
+      before = is.before;
+      behind = is.behind;
+    }
 
-mark-shows-stays : (Behind : List ℕ → Type 0) (held : HeldView) (count room : ℕ) (mark : Mark) → count ≤ length held.known → count ≤ mark.count → MarkShows Behind held mark → MarkShows Behind (gave count (stays held count (Some (nearer count mark))) room held) (nearer count mark)
-mark-shows-stays Behind held count room mark within before is more may =
+mark-shows-stays : (more : List ℕ) (held : HeldView) (count room : ℕ) (mark : Mark) → count ≤ length held.known → count ≤ mark.count → MarkShows more held mark → MarkShows more (gave count (stays held count (Some (nearer count mark))) room held) (nearer count mark)
+mark-shows-stays more held count room mark within before is =
     let sure : List ℕ = read_so_far held.newline held.cr (characters_of (ahead held false more).items) in
-    is more may ∙ ap (λ (cs : List ℕ). rest-of cs (refusal_of (ahead held false more).ending)) (given-to-mark held.known sure mark.count count within before)
+    is ∙ ap (λ (cs : List ℕ). rest-of cs (refusal_of (ahead held false more).ending)) (given-to-mark held.known sure mark.count count within before)
 
 -- the base moves to the mark
 abbrev moves : (count : ℕ) → Mark → BaseMove
 moves count mark = record { passed = mark.passed; given = count - mark.count; mark = None }
+
+-- the characters behind the mark that were given
+abbrev past-mark : HeldView → (count : ℕ) → Mark → List ℕ
+past-mark held count mark = take (count - mark.count) (drop mark.count held.known)
 
 from-moved : (held : HeldView) (count room : ℕ) (mark : Mark) → mark.passed ≤ length held.back → IsBack held → rebased (gave count (moves count mark) room held) ≡ record (from_base held mark.passed) { room = room }
 from-moved held count room mark passed behind =
@@ -295,65 +289,100 @@ from-moved held count room mark passed behind =
     ap (λ (p : ℕ). from-there held.encoding held.handler held.newline held.order p (drop mark.passed held.back ++ held.bytes) room) place
     ∙ ap (λ (b : List ℕ). from-there held.encoding held.handler held.newline held.order (base_of held + mark.passed) b room) (sym (drop-append-le mark.passed held.back held.bytes passed))
 
-base-moves : (Behind : List ℕ → Type 0) (held : HeldView) (count room : ℕ) (mark : Mark) → count ≤ length held.known → mark.count ≤ count → IsBack held → MarkStands Behind held mark → KnowsBase Behind (gave count (moves count mark) room held) (take (count - mark.count) (drop mark.count held.known))
-base-moves Behind held count room mark within past behind is =
+base-moves : (more : List ℕ) (held : HeldView) (count room : ℕ) (mark : Mark) → count ≤ length held.known → mark.count ≤ count → IsBack held → MarkStands more held mark → KnowsBase more (gave count (moves count mark) room held) (past-mark held count mark)
+base-moves more held count room mark within past behind is =
     let there = from-moved held count room mark is.passed behind in
+    let sure : List ℕ = read_all held.newline held.cr (characters_of (ahead held true more).items) in
     record {
       count = omega (arith, length-take-le (count - mark.count) (drop mark.count held.known) (omega (arith, within, length-drop mark.count held.known)));
-      left = λ more may.
-          let sure : List ℕ = read_all held.newline held.cr (characters_of (ahead held true more).items) in
+      left =
           ap (λ (own : HeldView). left_with own more) there
-          ∙ (is.left more may ∙ ap (λ (cs : List ℕ). rest-of cs (refusal_of (ahead held true more).ending)) (given-past-mark held.known sure mark.count count within past));
-      items = λ more may. let own = is.behind more may in (own.0, ap (λ (at : HeldView). ahead at true more) there ∙ own.1);
+          ∙ (is.left ∙ ap (λ (cs : List ℕ). rest-of cs (refusal_of (ahead held true more).ending)) (given-past-mark held.known sure mark.count count within past));
+      items = (is.behind.0, ap (λ (at : HeldView). ahead at true more) there ∙ is.behind.1);
     }
 
-shows-moves : (Behind : List ℕ → Type 0) (held : HeldView) (count room : ℕ) (mark : Mark) → count ≤ length held.known → mark.count ≤ count → mark.passed ≤ length held.back → IsBack held → MarkShows Behind held mark → ShowsBase Behind (gave count (moves count mark) room held) (take (count - mark.count) (drop mark.count held.known))
-shows-moves Behind held count room mark within past passed behind is more may =
+shows-moves : (more : List ℕ) (held : HeldView) (count room : ℕ) (mark : Mark) → count ≤ length held.known → mark.count ≤ count → mark.passed ≤ length held.back → IsBack held → MarkShows more held mark → ShowsBase more (gave count (moves count mark) room held) (past-mark held count mark)
+shows-moves more held count room mark within past passed behind is =
     let sure : List ℕ = read_so_far held.newline held.cr (characters_of (ahead held false more).items) in
     ap (λ (own : HeldView). left_so_far own more) (from-moved held count room mark passed behind)
-    ∙ (is more may ∙ ap (λ (cs : List ℕ). rest-of cs (refusal_of (ahead held false more).ending)) (given-past-mark held.known sure mark.count count within past))
+    ∙ (is ∙ ap (λ (cs : List ℕ). rest-of cs (refusal_of (ahead held false more).ending)) (given-past-mark held.known sure mark.count count within past))
+
+-- what is known once characters were given: the base passed some bytes, which are whole items; it moved only to where one was given since
+pub record GivenOn (more : List ℕ) (held new : HeldView) : Type 0 where
+  pub gone : List ℕ
+  pub bases : KnowsBases more new gone
+  pub passed : ℕ
+  pub within : passed ≤ length held.back
+  pub base : base_of new ≡ base_of held + passed
+  pub whole : whole_of new ≡ drop passed (whole_of held)
+  pub items : Passes (rebased held) (rebased new) more
+  pub moved : (1 ≤ new.given) ⊎ ((passed ≡ 0) × (held.given ≤ new.given))
+
+given-stays : (more : List ℕ) (held : HeldView) (gone : List ℕ) (count room : ℕ) (mark : Option Mark) → count ≤ length held.known → KnowsBases more held gone → IfSome mark (MarkStands more (gave count (stays held count mark) room held)) → GivenOn more held (gave count (stays held count mark) room held)
+given-stays more held gone count room mark within is marked = record {
+  gone = gone ++ take count held.known;
+  bases = record { back = is.back; base = base-stays more held gone count room mark within is.base; mark = marked };
+  passed = 0;
+  within = omega arith;
+  base = omega arith;
+  whole = refl;
+  items = ([], refl);
+  moved = inr (refl, omega arith);
+}
+
+given-moves : (more : List ℕ) (held : HeldView) (gone : List ℕ) (count room : ℕ) (mark : Mark) → count ≤ length held.known → mark.count < count → KnowsBases more held gone → MarkStands more held mark → GivenOn more held (gave count (moves count mark) room held)
+given-moves more held gone count room mark within past is own = record {
+  gone = past-mark held count mark;
+  bases = record {
+    back = omega (arith, is.back, length-drop mark.passed held.back);
+    base = base-moves more held count room mark within (omega (arith, past)) is.back own;
+    mark = tt;
+  };
+  passed = mark.passed;
+  within = own.passed;
+  base = omega (arith, is.back, own.passed, length-drop mark.passed held.back);
+  whole = sym (drop-append-le mark.passed held.back held.bytes own.passed);
+  items = (own.before.0, own.before.1 ∙ ap (items_before own.before.0) (sym (ap (λ (at : HeldView). ahead at true more) (from-moved held count room mark own.passed is.back))));
+  moved = inl (omega (arith, past));
+}
 
 -- a front of what is known was given
-pub given-so : (Behind : List ℕ → Type 0) (held : HeldView) (gone : List ℕ) (count room : ℕ) → count ≤ length held.known → IsBack held → KnowsBase Behind held gone → KnowsMark Behind held → GivenOn Behind (record (given_on count held) { room = room })
-given-so Behind held gone count room within behind is marked = by-mark held.mark marked
+pub bases-given : (more : List ℕ) (held : HeldView) (gone : List ℕ) (count room : ℕ) → count ≤ length held.known → KnowsBases more held gone → GivenOn more held (record (given_on count held) { room = room })
+bases-given more held gone count room within is = by-mark held.mark is.mark
   where
-    by-count : (mark : Mark) (past : Bool) → nat_lt mark.count count ≡ past → MarkStands Behind held mark → GivenOn Behind (gave count (if past then moves count mark else stays held count (Some (nearer count mark))) room held)
-    by-count mark true is_past own = record {
-      gone = take (count - mark.count) (drop mark.count held.known);
-      back = omega (arith, behind, length-drop mark.passed held.back);
-      base = base-moves Behind held count room mark within (omega (arith, ltb-true mark.count count is_past)) behind own;
-      mark = tt;
-    }
-    by-count mark false is_past own = record {
-      gone = gone ++ take count held.known;
-      back = behind;
-      base = base-stays Behind held gone count room (Some (nearer count mark)) within is;
-      mark = mark-stays Behind held count room mark within (ltb-false mark.count count is_past) own;
-    }
+    by-count : (mark : Mark) (past : Bool) → nat_lt mark.count count ≡ past → MarkStands more held mark → GivenOn more held (gave count (if past then moves count mark else stays held count (Some (nearer count mark))) room held)
+    by-count mark true is_past own = given-moves more held gone count room mark within (ltb-true mark.count count is_past) is own
+    by-count mark false is_past own = given-stays more held gone count room (Some (nearer count mark)) within is (mark-stays more held count room mark within (ltb-false mark.count count is_past) own)
 
-    by-mark : (mark : Option Mark) → IfSome mark (MarkStands Behind held) → GivenOn Behind (gave count (base_behind count held.given mark) room held)
-    by-mark None own = record { gone = gone ++ take count held.known; back = behind; base = base-stays Behind held gone count room None within is; mark = tt }
+    by-mark : (mark : Option Mark) → IfSome mark (MarkStands more held) → GivenOn more held (gave count (base_behind count held.given mark) room held)
+    by-mark None own = given-stays more held gone count room None within is tt
     by-mark (Some mark) own = by-count mark (nat_lt mark.count count) refl own
 
 -- so what is surely left goes on
-pub given-shows : (Behind : List ℕ → Type 0) (held : HeldView) (gone : List ℕ) (count room : ℕ) → count ≤ length held.known → IsBack held → IfSome held.mark (λ mark. mark.passed ≤ length held.back) → ShowsBase Behind held gone → ShowsMark Behind held → ShownOn Behind (record (given_on count held) { room = room })
-given-shows Behind held gone count room within behind passed is marked = by-mark held.mark passed marked
+pub shows-given : (more : List ℕ) (held : HeldView) (gone : List ℕ) (count room : ℕ) → count ≤ length held.known → ShowsBases more held gone → (own : List ℕ) × ShowsBases more (record (given_on count held) { room = room }) own
+shows-given more held gone count room within is = by-mark held.mark is.mark
   where
-    by-count : (mark : Mark) (past : Bool) → nat_lt mark.count count ≡ past → mark.passed ≤ length held.back → MarkShows Behind held mark → ShownOn Behind (gave count (if past then moves count mark else stays held count (Some (nearer count mark))) room held)
-    by-count mark true is_past fits own = record {
-      gone = take (count - mark.count) (drop mark.count held.known);
-      base = shows-moves Behind held count room mark within (omega (arith, ltb-true mark.count count is_past)) fits behind own;
-      mark = tt;
-    }
-    by-count mark false is_past fits own = record {
-      gone = gone ++ take count held.known;
-      base = shows-stays Behind held gone count room (Some (nearer count mark)) is;
-      mark = mark-shows-stays Behind held count room mark within (ltb-false mark.count count is_past) own;
-    }
+    by-count : (mark : Mark) (past : Bool) → nat_lt mark.count count ≡ past → mark.passed ≤ length held.back → MarkShows more held mark → (own : List ℕ) × ShowsBases more (gave count (if past then moves count mark else stays held count (Some (nearer count mark))) room held) own
+    by-count mark true is_past fits own = (
+      past-mark held count mark,
+      record {
+        back = omega (arith, is.back, length-drop mark.passed held.back);
+        base = shows-moves more held count room mark within (omega (arith, ltb-true mark.count count is_past)) fits is.back own;
+        mark = tt;
+      },
+    )
+    by-count mark false is_past fits own = (
+      gone ++ take count held.known,
+      record {
+        back = is.back;
+        base = shows-stays more held gone count room (Some (nearer count mark)) is.base;
+        mark = (fits, mark-shows-stays more held count room mark within (ltb-false mark.count count is_past) own);
+      },
+    )
 
-    by-mark : (mark : Option Mark) → IfSome mark (λ own. own.passed ≤ length held.back) → IfSome mark (MarkShows Behind held) → ShownOn Behind (gave count (base_behind count held.given mark) room held)
-    by-mark None fits own = record { gone = gone ++ take count held.known; base = shows-stays Behind held gone count room None is; mark = tt }
-    by-mark (Some mark) fits own = by-count mark (nat_lt mark.count count) refl fits own
+    by-mark : (mark : Option Mark) → IfSome mark (λ own. (own.passed ≤ length held.back) × MarkShows more held own) → (own : List ℕ) × ShowsBases more (gave count (base_behind count held.given mark) room held) own
+    by-mark None own = (gone ++ take count held.known, record { back = is.back; base = shows-stays more held gone count room None is.base; mark = tt })
+    by-mark (Some mark) own = by-count mark (nat_lt mark.count count) refl own.0 own.1
 
 -- Bytes were put behind those in hand.
 
@@ -381,52 +410,58 @@ sure-over held known cr place all =
 abbrev walk-over : HeldView → (place : ℕ) → List ℕ → Walk
 walk-over held place all = walk_at held.encoding (treatment held.handler held.encoding) true held.order place all
 
-pub base-put : (Behind Later : List ℕ → Type 0) (held : HeldView) (gone part : List ℕ) (room : ℕ) → ((more : List ℕ) → Later more → Behind (part ++ more)) → KnowsBase Behind held gone → KnowsBase Later (put-behind held part room) gone
-base-put Behind Later held gone part room comes is = record {
-  count = is.count;
-  left = λ more may.
-      ap (left-over held [] false (base_of held + 0)) (put-from held part more 0 (omega arith))
-      ∙ (is.left (part ++ more) (comes more may) ∙ ap (with_gone gone) (ap (left-over held held.known held.cr held.place) (sym (append_assoc held.bytes part more))));
-  items = λ more may.
-      let own = is.items (part ++ more) (comes more may) in
-      (own.0, ap (walk-over held (base_of held + 0)) (put-from held part more 0 (omega arith)) ∙ (own.1 ∙ ap (λ (all : List ℕ). items_before own.0 (walk-over held held.place all)) (sym (append_assoc held.bytes part more))));
-}
-
-pub shows-put : (Behind Later : List ℕ → Type 0) (held : HeldView) (gone part : List ℕ) (room : ℕ) → ((more : List ℕ) → Later more → Behind (part ++ more)) → ShowsBase Behind held gone → ShowsBase Later (put-behind held part room) gone
-shows-put Behind Later held gone part room comes is more may =
-    ap (sure-over held [] false (base_of held + 0)) (put-from held part more 0 (omega arith))
-    ∙ (is (part ++ more) (comes more may) ∙ ap (with_gone gone) (ap (sure-over held held.known held.cr held.place) (sym (append_assoc held.bytes part more))))
-
-mark-put-one : (Behind Later : List ℕ → Type 0) (held : HeldView) (part : List ℕ) (room : ℕ) (mark : Mark) → ((more : List ℕ) → Later more → Behind (part ++ more)) → MarkStands Behind held mark → MarkStands Later (put-behind held part room) mark
-mark-put-one Behind Later held part room mark comes is =
+mark-put : (more part : List ℕ) (held : HeldView) (room : ℕ) (mark : Mark) → MarkStands (part ++ more) held mark → MarkStands more (put-behind held part room) mark
+mark-put more part held room mark is =
     let base : ℕ = base_of held in
-    let there = λ (more : List ℕ). put-from held part more mark.passed is.passed in
+    let there = put-from held part more mark.passed is.passed in
+    let here = sym (append_assoc held.bytes part more) in
     record {
       count = is.count;
       passed = is.passed;
-      left = λ more may.
-          ap (left-over held [] false (base + mark.passed)) (there more)
-          ∙ (is.left (part ++ more) (comes more may) ∙ ap (without mark.count) (ap (left-over held held.known held.cr held.place) (sym (append_assoc held.bytes part more))));
-      before = λ more may.
-          let own = is.before (part ++ more) (comes more may) in
-          (own.0, ap (walk-over held (base + 0)) (put-from held part more 0 (omega arith)) ∙ (own.1 ∙ ap (λ (all : List ℕ). items_before own.0 (walk-over held (base + mark.passed) all)) (sym (there more))));
-      behind = λ more may.
-          let own = is.behind (part ++ more) (comes more may) in
-          (own.0, ap (walk-over held (base + mark.passed)) (there more) ∙ (own.1 ∙ ap (λ (all : List ℕ). items_before own.0 (walk-over held held.place all)) (sym (append_assoc held.bytes part more))));
+      left =
+          ap (left-over held [] false (base + mark.passed)) there
+          ∙ (is.left ∙ ap (without mark.count) (ap (left-over held held.known held.cr held.place) here));
+      before = (is.before.0, ap (walk-over held (base + 0)) (put-from held part more 0 (omega arith)) ∙ (is.before.1 ∙ ap (λ (all : List ℕ). items_before is.before.0 (walk-over held (base + mark.passed) all)) (sym there)));
+      behind = (is.behind.0, ap (walk-over held (base + mark.passed)) there ∙ (is.behind.1 ∙ ap (λ (all : List ℕ). items_before is.behind.0 (walk-over held held.place all)) here));
     }
 
-pub mark-put : (Behind Later : List ℕ → Type 0) (held : HeldView) (part : List ℕ) (room : ℕ) → ((more : List ℕ) → Later more → Behind (part ++ more)) → KnowsMark Behind held → KnowsMark Later (put-behind held part room)
-mark-put Behind Later held part room comes is = by-mark held.mark is
-  where
-    by-mark : (mark : Option Mark) → IfSome mark (MarkStands Behind held) → IfSome mark (MarkStands Later (put-behind held part room))
-    by-mark None own = tt
-    by-mark (Some mark) own = mark-put-one Behind Later held part room mark comes own
+-- with bytes behind them, from the base on or from a place behind it
+pub ahead-put : (more part : List ℕ) (held : HeldView) (room passed : ℕ) → passed ≤ length held.back → ahead (from_base (put-behind held part room) passed) true more ≡ ahead (from_base held passed) true (part ++ more)
+ahead-put more part held room passed within = ap (walk-over held (base_of held + passed)) (put-from held part more passed within)
 
-pub mark-shows-put : (Behind Later : List ℕ → Type 0) (held : HeldView) (part : List ℕ) (room : ℕ) → ((more : List ℕ) → Later more → Behind (part ++ more)) → IfSome held.mark (λ mark. mark.passed ≤ length held.back) → ShowsMark Behind held → ShowsMark Later (put-behind held part room)
-mark-shows-put Behind Later held part room comes passed is = by-mark held.mark passed is
+pub bases-put : (more part : List ℕ) (held : HeldView) (gone : List ℕ) (room : ℕ) → KnowsBases (part ++ more) held gone → KnowsBases more (put-behind held part room) gone
+bases-put more part held gone room is = record {
+  back = is.back;
+  base = record {
+    count = is.base.count;
+    left =
+        ap (left-over held [] false (base_of held + 0)) (put-from held part more 0 (omega arith))
+        ∙ (is.base.left ∙ ap (with_gone gone) (ap (left-over held held.known held.cr held.place) here));
+    items = (is.base.items.0, ap (walk-over held (base_of held + 0)) (put-from held part more 0 (omega arith)) ∙ (is.base.items.1 ∙ ap (λ (all : List ℕ). items_before is.base.items.0 (walk-over held held.place all)) here));
+  };
+  mark = by-mark held.mark is.mark;
+}
   where
-    by-mark : (mark : Option Mark) → IfSome mark (λ own. own.passed ≤ length held.back) → IfSome mark (MarkShows Behind held) → IfSome mark (MarkShows Later (put-behind held part room))
-    by-mark None fits own = tt
-    by-mark (Some mark) fits own = λ more may.
-        ap (sure-over held [] false (base_of held + mark.passed)) (put-from held part more mark.passed fits)
-        ∙ (own (part ++ more) (comes more may) ∙ ap (without mark.count) (ap (sure-over held held.known held.cr held.place) (sym (append_assoc held.bytes part more))))
+    here : held.bytes ++ (part ++ more) ≡ (held.bytes ++ part) ++ more
+    here = sym (append_assoc held.bytes part more)
+
+    by-mark : (mark : Option Mark) → IfSome mark (MarkStands (part ++ more) held) → IfSome mark (MarkStands more (put-behind held part room))
+    by-mark None own = tt
+    by-mark (Some mark) own = mark-put more part held room mark own
+
+pub shows-put : (more part : List ℕ) (held : HeldView) (gone : List ℕ) (room : ℕ) → ShowsBases (part ++ more) held gone → ShowsBases more (put-behind held part room) gone
+shows-put more part held gone room is = record {
+  back = is.back;
+  base = there 0 (omega arith) ∙ (is.base ∙ ap (with_gone gone) here);
+  mark = by-mark held.mark is.mark;
+}
+  where
+    here : left_so_far held (part ++ more) ≡ left_so_far (put-behind held part room) more
+    here = ap (sure-over held held.known held.cr held.place) (sym (append_assoc held.bytes part more))
+
+    there : (passed : ℕ) → passed ≤ length held.back → left_so_far (from_base (put-behind held part room) passed) more ≡ left_so_far (from_base held passed) (part ++ more)
+    there passed within = ap (sure-over held [] false (base_of held + passed)) (put-from held part more passed within)
+
+    by-mark : (mark : Option Mark) → IfSome mark (λ own. (own.passed ≤ length held.back) × MarkShows (part ++ more) held own) → IfSome mark (λ own. (own.passed ≤ length held.back) × MarkShows more (put-behind held part room) own)
+    by-mark None own = tt
+    by-mark (Some mark) own = (own.0, there mark.passed own.0 ∙ (own.1 ∙ ap (without mark.count) here))

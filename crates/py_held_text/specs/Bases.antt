@@ -21,35 +21,46 @@ with_gone gone rest = record { characters = gone ++ rest.characters; refusal = r
 abbrev pub without : ℕ → Rest → Rest
 without count rest = record { characters = drop count rest.characters; refusal = rest.refusal }
 
--- the base stands among the bytes of a stream, which are those of the bytes in hand and before them
+-- the base is a place of the stream: no more bytes were decoded since than stand before those that aren't decoded
 abbrev pub IsBack : HeldView → Type 0
 IsBack held = length held.back ≤ held.place
 
--- Whatever comes behind that may: from the base on the text has the characters that were given since, and then what is left; and the bytes
--- since the base are whole items
-pub record KnowsBase (Behind : List ℕ → Type 0) (held : HeldView) (gone : List ℕ) : Type 0 where
+-- With some bytes behind those in hand: from the base on the text has the characters that were given since, and then what is left; and the
+-- bytes since the base are whole items
+pub record KnowsBase (more : List ℕ) (held : HeldView) (gone : List ℕ) : Type 0 where
   pub count : length gone ≡ held.given
-  pub left : (more : List ℕ) → Behind more → left_with (rebased held) more ≡ with_gone gone (left_with held more)
-  pub items : (more : List ℕ) → Behind more → Passes (rebased held) held more
+  pub left : left_with (rebased held) more ≡ with_gone gone (left_with held more)
+  pub items : Passes (rebased held) held more
 
--- Whatever comes behind that may: from a mark on the text has what is left, without the known characters that stand before the mark; and
--- the bytes from the base to the mark are whole items, and so are those from there on
-pub record MarkStands (Behind : List ℕ → Type 0) (held : HeldView) (mark : Mark) : Type 0 where
+-- With some bytes behind those in hand: from a mark on the text has what is left, without the known characters that stand before the mark;
+-- and the bytes from the base to the mark are whole items, and so are those from there on
+pub record MarkStands (more : List ℕ) (held : HeldView) (mark : Mark) : Type 0 where
   pub count : mark.count ≤ length held.known
   pub passed : mark.passed ≤ length held.back
-  pub left : (more : List ℕ) → Behind more → left_with (from_base held mark.passed) more ≡ without mark.count (left_with held more)
-  pub before : (more : List ℕ) → Behind more → Passes (rebased held) (from_base held mark.passed) more
-  pub behind : (more : List ℕ) → Behind more → Passes (from_base held mark.passed) held more
+  pub left : left_with (from_base held mark.passed) more ≡ without mark.count (left_with held more)
+  pub before : Passes (rebased held) (from_base held mark.passed) more
+  pub behind : Passes (from_base held mark.passed) held more
 
-abbrev pub KnowsMark : (Behind : List ℕ → Type 0) → HeldView → Type 0
-KnowsMark Behind held = IfSome held.mark (MarkStands Behind held)
+abbrev pub KnowsMark : (more : List ℕ) → HeldView → Type 0
+KnowsMark more held = IfSome held.mark (MarkStands more held)
+
+-- what is known of the base and of the mark
+pub record KnowsBases (more : List ℕ) (held : HeldView) (gone : List ℕ) : Type 0 where
+  pub back : IsBack held
+  pub base : KnowsBase more held gone
+  pub mark : KnowsMark more held
 
 -- the same of what is surely left while more may come
-abbrev pub ShowsBase : (Behind : List ℕ → Type 0) → HeldView → List ℕ → Type 0
-ShowsBase Behind held gone = (more : List ℕ) → Behind more → left_so_far (rebased held) more ≡ with_gone gone (left_so_far held more)
+abbrev pub ShowsBase : (more : List ℕ) → HeldView → List ℕ → Type 0
+ShowsBase more held gone = left_so_far (rebased held) more ≡ with_gone gone (left_so_far held more)
 
-abbrev pub MarkShows : (Behind : List ℕ → Type 0) → HeldView → Mark → Type 0
-MarkShows Behind held mark = (more : List ℕ) → Behind more → left_so_far (from_base held mark.passed) more ≡ without mark.count (left_so_far held more)
+abbrev pub MarkShows : (more : List ℕ) → HeldView → Mark → Type 0
+MarkShows more held mark = left_so_far (from_base held mark.passed) more ≡ without mark.count (left_so_far held more)
 
-abbrev pub ShowsMark : (Behind : List ℕ → Type 0) → HeldView → Type 0
-ShowsMark Behind held = IfSome held.mark (MarkShows Behind held)
+abbrev pub ShowsMark : (more : List ℕ) → HeldView → Type 0
+ShowsMark more held = IfSome held.mark (λ mark. (mark.passed ≤ length held.back) × MarkShows more held mark)
+
+pub record ShowsBases (more : List ℕ) (held : HeldView) (gone : List ℕ) : Type 0 where
+  pub back : IsBack held
+  pub base : ShowsBase more held gone
+  pub mark : ShowsMark more held

@@ -42,7 +42,7 @@ cleared held place room = record held { known = []; cr = false; back = []; given
 
 -- The base.
 
--- the bytes from n on, of which the first m are decoded
+-- of some bytes those that are decoded, but for the first few, which stand before the base
 abbrev pub back_of : (gone decoded : ℕ) → List ℕ → List ℕ
 back_of gone decoded bytes = take (decoded - gone) (drop gone bytes)
 

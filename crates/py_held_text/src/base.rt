@@ -32,7 +32,8 @@ fn comes_next(mark: Option<Mark>) -> bool
 }
 
 /// The mark once more is decoded, where so many characters are known and so many bytes stand between the base and here; `cr` says
-/// that a CR is held.
+/// that a CR is held. None is set behind a CR that is held, and so a text of which every decoding begins behind one keeps its bytes:
+/// nothing bounds them yet.
 pub(crate) fn next_mark(mark: Option<Mark>, cr: bool, count: usize, passed: usize) -> Option<Mark>
     ensures { result ≡ mark_by mark cr count passed }
 {

@@ -3,7 +3,8 @@ ghost use Rattle.py_flat.specs.Limits.{greatest_place};
 ghost use Rattle.py_plain.specs.Units.{Unknown};
 ghost use Rattle.py_plain.specs.Handlers.{reads_texts};
 ghost use Rattle.py_plain.specs.NewlineRule.{read_all};
-ghost use Rattle.py_held_text.specs.Held.{nothing_held, cleared, held_anew};
+ghost use Rattle.py_telling.specs.ToldView.{IsTold, IsToldAmong};
+ghost use Rattle.py_held_text.specs.Held.{nothing_held, cleared, base_of, whole_of, held_anew};
 ghost use Rattle.py_held_text.specs.Decodes.{DecodeOutcome, DecodeLastOutcome, PartOutcome};
 ghost use Rattle.py_held_text.specs.Finding.{IsFrontOf, answer_of, enough, enough_before, GiveOutcome};
 
@@ -14,6 +15,7 @@ use crate::{HeldStop, Mark, Wanted};
 use py_blocks::TextFront;
 use py_codec::{FrontStop, IoFault};
 use py_plain::Newlines;
+use py_telling::{Told, told_among};
 use py_text::Coder;
 use std::alloc::Global;
 use std::fmt;
@@ -369,6 +371,26 @@ impl HeldText {
         self.mark = base.mark;
         self.shrink();
         Ok(text)
+    }
+
+    /// Where the text stands, by the bytes from the base on; `last` says that none come behind those in hand. It is what the text tells
+    /// where these bytes surely give as many characters as were given since the base, whatever comes behind them. Each of them is read
+    /// once, or twice.
+    pub fn tell(&self, last: bool) -> Told
+        ensures told { IsToldAmong self.now.encoding self.now.handler self.now.newline last (base_of self.now) self.now.given (whole_of self.now) result }
+        ensures within { IsTold result }
+    {
+        let bytes = behind(&self.bytes, self.gone);
+        let base = self.place - (self.decoded - self.gone) as u64;
+        told_among(
+            self.coder.encoding,
+            self.coder.errors,
+            self.known.newline(),
+            bytes,
+            base,
+            self.given,
+            last,
+        )
     }
 
     /// Has all bytes from the base on in hand again, also those that were decoded, to read them by other settings: nothing is

@@ -19,5 +19,6 @@ pub use held_text::{HeldText, drop_front};
 pub use py_blocks::TextFront as HeldFront;
 pub use py_codec::IoFault;
 pub use py_plain::Newlines;
+pub use py_telling::Told;
 pub use py_text::Coder;
 pub use wanted::Wanted;

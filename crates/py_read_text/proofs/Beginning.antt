@@ -15,6 +15,7 @@ use Rattle.py_text.specs.declared.text_settings.TextSettings as declared
 use Rattle.py_read_text.specs.TextState.{settings_of}
 use Rattle.py_read_text.specs.Waiting.{bytes_between}
 use Rattle.py_read_text.specs.Knowing.{from_place, KnowsTold, IsText}
+use Rattle.py_read_text.proofs.Spots.{spot_clean}
 
 -- a live buffer that can seek tells its place
 accepts_tell : (buffer : Buffer) → buffer.life ≡ life.Live → buffer.can.seekable ≡ true → refusal (flat_of buffer) Tell ≡ None
@@ -36,6 +37,7 @@ knows_begun settings bytes place room =
       shows = λ more front. subst (λ (since : List ℕ). length (left_so_far (from_place settings place) (since ++ more)).characters ≤ 0 + length (left_so_far (record (from_place settings place) { room = room }) more).characters) (sym none) (omega arith);
       sound = λ more front says. subst (λ (since : List ℕ). (left_so_far (from_place settings place) (since ++ more)).refusal ≡ None) (sym none) says;
       whole = λ zero. refl;
+      spot = spot_clean settings bytes place place room [] refl;
     }
 
 pub text_begun : (buffer : Buffer) (coder reading : Coder) (settings : declared.TextSettings) (place : ℕ) → 0 < settings.chunk_size → is_unbuffered buffer.buffering ≡ false → buffer.exported ≡ false → OwesUpTo buffer.owed buffer.place → place ≡ buffer.place → place ≤ greatest_place → (buffer.can.readable ≡ true → reading ≡ coder) → IsText buffer (nothing_held reading settings.newline place 0) place 0 (settings_of coder settings)

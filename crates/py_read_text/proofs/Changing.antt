@@ -13,10 +13,7 @@ use Rattle.py_held_text.specs.Held.{HeldView, nothing_held, base_of, whole_of, h
 use Rattle.py_text.specs.declared.coder.Coder.{Coder}
 use Rattle.py_read_text.specs.Waiting.{bytes_between}
 use Rattle.py_read_text.specs.Knowing.{TextView, from_place, KnowsTold, IsText, IsSetTo}
-
--- all bytes since a place are in hand again, and none is decoded
-abbrev pub held_from : TextSettings → ℕ → List ℕ → ℕ → HeldView
-held_from settings at since room = record (from_place settings at) { bytes = since; room = room }
+use Rattle.py_read_text.proofs.Spots.{held_from, spot_clean}
 
 -- what is left of them is what is left from the place on, by whichever settings
 pub knows_anew : (settings : TextSettings) (bytes : List ℕ) (far at room : ℕ) (since : List ℕ) → at + length since ≡ far → left_at bytes at ≡ since ++ left_at bytes far → far ≤ max at (length bytes) → KnowsTold settings bytes far at 0 (held_from settings at since room)
@@ -31,6 +28,7 @@ knows_anew settings bytes far at room since reaches split within =
       shows = λ more front. subst (λ (own : List ℕ). length (left_so_far (from_place settings at) (own ++ more)).characters ≤ 0 + length (left_so_far (held_from settings at since room) more).characters) (sym between) (omega arith);
       sound = λ more front says. subst (λ (own : List ℕ). (left_so_far (from_place settings at) (own ++ more)).refusal ≡ None) (sym between) says;
       whole = λ none. split;
+      spot = spot_clean settings bytes far at room since split;
     }
 
 -- settings by which a text is read otherwise

@@ -8,7 +8,10 @@ use Rattle.py_plain.specs.Items.{Item, characters_of, refusal_of}
 use Rattle.py_plain.specs.NewlineRule.{released, passes, universal, read_so_far, read_all}
 use Rattle.py_plain_text.specs.Rest.{Rest}
 use Rattle.py_held_text.specs.Held.{HeldView, ahead, left_with, left_so_far}
-use Rattle.py_held_text.specs.Decodes.{Decodes, IsDrained}
+use Rattle.py_held_text.specs.declared.held_stop.HeldStop.{HeldStop}
+use Rattle.py_held_text.specs.declared.held_stop.HeldStop.TheVariants as stops
+use Rattle.py_held_text.specs.Decodes.{Decodes, IsDrained, StoppedAt}
+use Rattle.py_held_text.proofs.Bases.{same-decoded, bases-decoded, bases-follow}
 use Rattle.py_read_text.specs.Reading.{Coming, Follows}
 
 -- The rule, of no characters.
@@ -58,7 +61,28 @@ follows_itself Behind held = record {
   settings = record { encoding = refl; handler = refl; newline = refl };
   stands = refl;
   forth = omega arith;
+  order = refl;
+  base = refl;
   whole = refl;
+  given = refl;
+  bases = λ more may gone is. is;
+  few = omega arith;
+  left = λ more may. refl;
+  shows = λ more may. omega arith;
+  sound = λ more may none. none;
+}
+
+-- room was taken, or let go of
+pub follows_room : (Behind : List ℕ → Type 0) (held : HeldView) (room : ℕ) → Follows Behind held (record held { room = room })
+follows_room Behind held room = record {
+  settings = record { encoding = refl; handler = refl; newline = refl };
+  stands = refl;
+  forth = omega arith;
+  order = refl;
+  base = refl;
+  whole = refl;
+  given = refl;
+  bases = λ more may gone is. bases-follow more held (record held { room = room }) gone (record { settings = record { encoding = refl; handler = refl; newline = refl }; order = refl; base = refl; whole = refl }) refl refl refl refl (omega arith) refl ([], refl) is;
   few = omega arith;
   left = λ more may. refl;
   shows = λ more may. omega arith;
@@ -70,7 +94,11 @@ follows_on Behind old mid new first second = record {
   settings = record { encoding = second.settings.encoding ∙ first.settings.encoding; handler = second.settings.handler ∙ first.settings.handler; newline = second.settings.newline ∙ first.settings.newline };
   stands = second.stands ∙ first.stands;
   forth = omega (arith, first.forth, second.forth);
+  order = second.order ∙ first.order;
+  base = second.base ∙ first.base;
   whole = second.whole ∙ first.whole;
+  given = second.given ∙ first.given;
+  bases = λ more may gone is. second.bases more may gone (first.bases more may gone is);
   few = omega (arith, first.few, second.few);
   left = λ more may. second.left more may ∙ first.left more may;
   shows = λ more may. omega (arith, first.shows more may, second.shows more may);
@@ -83,7 +111,11 @@ follows_of Behind Wider old new wider follows = record {
   settings = follows.settings;
   stands = follows.stands;
   forth = follows.forth;
+  order = follows.order;
+  base = follows.base;
   whole = follows.whole;
+  given = follows.given;
+  bases = λ more may. follows.bases more (wider more may);
   few = follows.few;
   left = λ more may. follows.left more (wider more may);
   shows = λ more may. follows.shows more (wider more may);
@@ -99,7 +131,11 @@ decoded old new decodes = record {
   settings = decodes.settings;
   stands = decoded_stands false old new decodes;
   forth = omega (arith, decodes.place);
+  order = decodes.order;
+  base = (same-decoded false old new decodes).base;
   whole = decodes.whole;
+  given = decodes.given;
+  bases = λ more may gone is. bases-decoded more false old new gone (λ last. absurd (cc)) decodes is;
   few = omega (arith, decodes.place, decodes.few);
   left = λ more may. decodes.left more (λ last. absurd (cc));
   shows = λ more may. omega (arith, ap (λ (rest : Rest). length rest.characters) (decodes.so_far refl more));
@@ -118,7 +154,11 @@ decoded_last old new drained decodes =
       settings = decodes.settings;
       stands = decoded_stands true old new decodes;
       forth = omega (arith, decodes.place);
+      order = decodes.order;
+      base = (same-decoded true old new decodes).base;
       whole = decodes.whole;
+      given = decodes.given;
+      bases = λ more none gone is. bases-decoded more true old new gone none decodes is;
       few = omega (arith, decodes.place, decodes.few);
       left = λ more none. decodes.left more none;
       shows = λ more none. subst (λ (cs : List ℕ). length (left_so_far old cs).characters ≤ length (left_so_far new cs).characters) (sym (none refl))
@@ -157,9 +197,30 @@ let_go Behind held none = record {
   settings = record { encoding = refl; handler = refl; newline = refl };
   stands = refl;
   forth = omega arith;
+  order = refl;
+  base = refl;
   whole = refl;
+  given = refl;
+  bases = λ more may gone is. bases-follow more held (after_release held) gone (record { settings = record { encoding = refl; handler = refl; newline = refl }; order = refl; base = refl; whole = refl }) refl refl refl refl (omega (arith, length-append held.known (read_all held.newline held.cr []))) (released_left held more (none more may)) ([], refl) is;
   few = omega (arith, length-append held.known (read_all held.newline held.cr []), cr_few held.newline held.cr);
   left = λ more may. released_left held more (none more may);
   shows = λ more may. released_shows held more;
   sound = λ more may says. says;
 }
+
+-- Looking at what is in hand.
+
+-- once more bytes were decoded, and their characters looked at
+pub looked : (first old mid new : HeldView) → Follows (Coming false) first old → Decodes false old mid → new ≡ mid → Follows (Coming false) first new
+looked first old mid new follows decodes same = subst (Follows (Coming false) first) (sym same) (follows_on (Coming false) first old mid follows (decoded old mid decodes))
+
+-- no memory was there for an LF, or it was given for a held CR, where no item is left
+pub kept_cr : (old mid new : HeldView) → IsDrained false old → Decodes true old mid → new ≡ mid → Follows (Coming true) old new
+kept_cr old mid new drained decodes same = subst (Follows (Coming true) old) (sym same) (decoded_last old mid drained decodes)
+
+pub gave_cr : (old mid new : HeldView) (stop : HeldStop) → IsDrained false old → Decodes true old mid → StoppedAt true mid stop → stop ≡ stops.Drained → new ≡ after_release mid → Follows (Coming true) old new
+gave_cr old mid new stop drained decodes stopped is released =
+    let last : IsDrained true mid = subst (StoppedAt true mid) is stopped in
+    subst (Follows (Coming true) old) (sym released)
+    (follows_on (Coming true) old mid (after_release mid) (decoded_last old mid drained decodes)
+    (let_go (Coming true) mid (λ more none. ap (λ (cs : List ℕ). (ahead mid true cs).items) (none refl) ∙ last.items)))

@@ -149,7 +149,7 @@ gathers_at old before mid new asked live can so_far same place is short drained 
     }
 
 -- what is in hand was looked at, whatever comes behind
-holds_looked : (buffer : Buffer) (old new : HeldView) (at taken : ℕ) (settings : TextSettings) → Follows (Coming false) old new → IsText buffer old at taken settings → IsText buffer new at taken settings
+pub holds_looked : (buffer : Buffer) (old new : HeldView) (at taken : ℕ) (settings : TextSettings) → Follows (Coming false) old new → IsText buffer old at taken settings → IsText buffer new at taken settings
 holds_looked buffer old new at taken settings follows is = text_follows buffer old new at taken settings (Coming false) follows (λ told more front last. absurd (cc)) is
 
 -- a text as it is seen, with something else in hand

@@ -1,5 +1,6 @@
 -- What holds of every text stays so.
 use Rattle.std.proofs.Common.{◌≡◌, ◌⊎◌, inl, inr, true, ℕ, ◌+◌, ◌≤◌, Bool, false, IsTrue, List, [], length, sym, ap, subst, ◌∙◌, arith}
+use Rattle.std.specs.Bool.{⊤}
 use Rattle.std.proofs.lemmas.List.{length-append, length-drop}
 use Rattle.py_flat.specs.declared.life.Life.TheVariants as life
 use Rattle.py_flat.specs.Bytes.{left_at}
@@ -13,6 +14,8 @@ use Rattle.py_stream.specs.Buffer.{Buffer, WhereShown, flat_of}
 use Rattle.py_held_text.specs.Held.{HeldView, whole_of}
 use Rattle.py_read_text.specs.Knowing.{KnowsTold, IsText}
 use Rattle.py_read_text.specs.Reading.{Follows, Reads, GaveTold}
+use Rattle.py_read_text.proofs.Following.{follows_room}
+use Rattle.py_read_text.proofs.Spots.{spot_follows}
 use Rattle.py_read_text.proofs.Knowing.{knows_follows, knows_part, knows_given, with_part, whole_part, without_front, given_none}
 
 -- what is in hand was looked at
@@ -34,7 +37,7 @@ text_follows buffer old new at taken settings Behind follows may is = record {
 
 -- the room changes nothing
 in_room : (settings : TextSettings) (bytes : List ℕ) (far at taken : ℕ) (held : HeldView) (room : ℕ) → KnowsTold settings bytes far at taken held → KnowsTold settings bytes far at taken (record held { room = room })
-in_room settings bytes far at taken held room told = record { given = told.given; count = told.count; within = told.within; left = told.left; shows = told.shows; sound = told.sound; whole = told.whole }
+in_room settings bytes far at taken held room told = record { given = told.given; count = told.count; within = told.within; left = told.left; shows = told.shows; sound = told.sound; whole = told.whole; spot = spot_follows settings bytes far at (λ more. ⊤) held (record held { room = room }) (follows_room (λ more. ⊤) held room) tt told.spot }
 
 pub text_room : (buffer : Buffer) (held : HeldView) (at taken room : ℕ) (settings : TextSettings) → IsText buffer held at taken settings → IsText buffer (record held { room = room }) at taken settings
 text_room buffer held at taken room settings is = record {

@@ -17,6 +17,7 @@ use Rattle.py_held_text.specs.Held.{HeldView, ahead, base_behind, given_on, whol
 use Rattle.py_read_text.specs.Waiting.{bytes_between}
 use Rattle.py_read_text.specs.Knowing.{from_place, with_given, KnowsTold}
 use Rattle.py_read_text.specs.Reading.{Follows}
+use Rattle.py_read_text.proofs.Spots.{spot_follows, spot_part, spot_given}
 
 -- a list is a front of itself
 itself : (xs : List ℕ) → IsFrontOf xs xs
@@ -35,6 +36,7 @@ knows_follows settings bytes far at taken Behind old new follows may told =
       shows = λ more front. omega (arith, told.shows more front, follows.shows more (may more front));
       sound = λ more front none. told.sound more front (follows.sound more (may more front) none);
       whole = λ none. told.whole none ∙ ap (λ (xs : List ℕ). xs ++ rest) (sym follows.whole);
+      spot = spot_follows settings bytes far at Behind old new follows (may rest (itself rest)) told.spot;
     }
 
 -- nothing but nothing comes behind the end
@@ -96,6 +98,7 @@ knows_part settings bytes far at taken held part room forth front told =
       sound = λ more own none. subst (λ (all : List ℕ). (left_so_far (from_place settings at) all).refusal ≡ None) (sym (taken_bytes more))
           (told.sound (part ++ more) (longer more own) (sym (ap (λ (rest : Rest). rest.refusal) (so_far_part held part more room)) ∙ none));
       whole = λ none. told.whole none ∙ (ap (λ (xs : List ℕ). whole_of held ++ xs) split ∙ (sym (append_assoc (whole_of held) part behind) ∙ ap (λ (xs : List ℕ). xs ++ behind) (whole_part held part)));
+      spot = spot_part settings bytes far at held part room split told.spot;
     }
 
 -- Characters were given.
@@ -135,4 +138,5 @@ knows_given settings bytes far at taken held count room within told =
       shows = λ more front. omega (arith, told.shows more front, sizes more);
       sound = λ more front none. told.sound more front none;
       whole = λ none. told.whole (omega (arith, none)) ∙ ap (λ (xs : List ℕ). xs ++ left_at bytes far) (sym (given_none held count room (omega (arith, none))));
+      spot = spot_given settings bytes far at held count room within told.spot;
     }

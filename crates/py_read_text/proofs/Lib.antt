@@ -3,6 +3,8 @@ mod Enough
 mod OneLine
 mod Following
 mod Knowing
+mod Spots
+pub mod Telling
 pub mod Steps
 mod Fetching
 mod Holding

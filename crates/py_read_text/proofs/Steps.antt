@@ -32,7 +32,7 @@ pub record Tied (text : TextView) : Type 0 where
   pub rule : text.held.newline ≡ text.settings.newline
   pub knows : KnowsTold text.settings (flat_of text.buffer).bytes text.buffer.place text.at text.taken text.held
 
-behind_given : (given cs : List ℕ) (taken : ℕ) → length given ≡ taken → drop taken (given ++ cs) ≡ cs
+pub behind_given : (given cs : List ℕ) (taken : ℕ) → length given ≡ taken → drop taken (given ++ cs) ≡ cs
 behind_given given cs taken count = ap (λ (n : ℕ). drop n (given ++ cs)) (sym count) ∙ drop-append_seam given cs
 
 -- what is left of the text that it stands for

@@ -6,12 +6,15 @@ use Rattle.py_flat.specs.Bytes.{left_at}
 use Rattle.py_flat.specs.BinaryStep.{IsFrontOf}
 use Rattle.py_flat.specs.Refusals.{is_unbuffered}
 use Rattle.py_plain.specs.Units.{Unknown}
+use Rattle.py_plain.specs.Items.{Item}
+use Rattle.py_plain.specs.Pieces.{items_before}
 use Rattle.py_plain_text.specs.TextFile.{TextPlace, TextSettings, TextFile}
 use Rattle.py_plain_text.specs.TextOver.{TextOver}
 use Rattle.py_plain_text.specs.Rest.{Rest}
 use Rattle.py_stream.specs.Writing.{OwesUpTo}
 use Rattle.py_stream.specs.Buffer.{Buffer, WhereShown, flat_of}
-use Rattle.py_held_text.specs.Held.{HeldView, whole_of, left_with, left_so_far}
+use Rattle.py_held_text.specs.Held.{HeldView, ahead, base_of, whole_of, left_with, left_so_far}
+use Rattle.py_held_text.specs.Bases.{rebased, KnowsBases}
 use Rattle.py_held_text.specs.Decodes.{known_with_cr}
 use Rattle.py_read_text.specs.TextState.{TextState, file_of}
 use Rattle.py_read_text.specs.Waiting.{bytes_between}
@@ -48,10 +51,22 @@ from_place settings at = record { encoding = settings.encoding; handler = settin
 abbrev pub with_given : List ℕ → Rest → Rest
 with_given given rest = record { characters = given ++ rest.characters; refusal = rest.refusal }
 
+-- told, of bytes of which those up to a place were taken, and of a text that stands at one of them: those in hand lie where the base stands,
+-- behind whole items from the text place on; what is known of the base and of the mark; and a character was given since the base, or that
+-- is the text place
+pub record KnowsSpot (settings : TextSettings) (bytes : List ℕ) (far at : ℕ) (held : HeldView) : Type 0 where
+  pub order : held.order ≡ Unknown
+  pub lies : left_at bytes (base_of held) ≡ whole_of held ++ left_at bytes far
+  pub gone : List ℕ
+  pub bases : KnowsBases (left_at bytes far) held gone
+  pub items : List Item
+  pub behind : ahead (from_place settings at) true (left_at bytes at) ≡ items_before items (ahead (rebased held) true (left_at bytes far))
+  pub moved : (1 ≤ held.given) ⊎ (base_of held ≡ at)
+
 -- told, of bytes of which those up to a place were taken: what is left from the text place on is the characters taken, and then what is
 -- left of what is in hand and comes behind it. And of every front of what comes behind: what the bytes taken and that front surely give
 -- is no more than the characters taken and what is surely left of what is in hand and that front, and no refused range stands in them
--- where none is left. No byte past the end was taken. Where no character was given, all bytes from the base on are those that were taken
+-- where none is left. No byte past the end was taken. Where no character was given, all bytes from the base on are those that were taken. Where the text stands is told by what is in hand
 pub record KnowsTold (settings : TextSettings) (bytes : List ℕ) (far at taken : ℕ) (held : HeldView) : Type 0 where
   pub given : List ℕ
   pub count : length given ≡ taken
@@ -60,6 +75,7 @@ pub record KnowsTold (settings : TextSettings) (bytes : List ℕ) (far at taken 
   pub shows : (more : List ℕ) → IsFrontOf more (left_at bytes far) → length (left_so_far (from_place settings at) (bytes_between bytes at far ++ more)).characters ≤ taken + length (left_so_far held more).characters
   pub sound : (more : List ℕ) → IsFrontOf more (left_at bytes far) → (left_so_far held more).refusal ≡ None → (left_so_far (from_place settings at) (bytes_between bytes at far ++ more)).refusal ≡ None
   pub whole : taken ≡ 0 → left_at bytes at ≡ whole_of held ++ left_at bytes far
+  pub spot : KnowsSpot settings bytes far at held
 
 -- a text from which nothing was taken since it was placed
 pub record IsClean (text : TextView) : Type 0 where

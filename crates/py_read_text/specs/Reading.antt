@@ -19,7 +19,8 @@ use Rattle.py_stream.specs.Writing.{OwesUpTo}
 use Rattle.py_stream.specs.Buffer.{Buffer, WhereShown, flat_of, KeepsBuffer, IsClosedWithRaw}
 use Rattle.py_held_text.specs.declared.wanted.Wanted.{Wanted}
 use Rattle.py_held_text.specs.declared.wanted.Wanted.TheVariants.{Characters, Line}
-use Rattle.py_held_text.specs.Held.{HeldView, cleared, ahead, given_on, whole_of, left_with, left_so_far}
+use Rattle.py_held_text.specs.Held.{HeldView, base_of, cleared, ahead, given_on, whole_of, left_with, left_so_far}
+use Rattle.py_held_text.specs.Bases.{KnowsBases}
 use Rattle.py_held_text.specs.Decodes.{KeepsSettings, known_with_cr, IsDrained}
 use Rattle.py_held_text.specs.Finding as held_front
 use Rattle.py_held_text.specs.Finding.{enough, enough_before}
@@ -47,12 +48,17 @@ call_of (Characters size) = Read size
 call_of (Line limit) = ReadLine limit
 
 -- What is in hand was looked at: more of it may be known, and what is left is as it was, whatever comes behind it, of which `Behind` says
--- what that may be; nothing that was surely left is so no more. All bytes from the base on are as they were
+-- what that may be; nothing that was surely left is so no more. The base stays, with all bytes from there on, and what is known of it and of
+-- the mark
 pub record Follows (Behind : List ℕ → Type 0) (old new : HeldView) : Type 0 where
   pub settings : KeepsSettings old new
   pub stands : new.place + length new.bytes ≡ old.place + length old.bytes
   pub forth : old.place ≤ new.place
+  pub order : new.order ≡ old.order
+  pub base : base_of new ≡ base_of old
   pub whole : whole_of new ≡ whole_of old
+  pub given : new.given ≡ old.given
+  pub bases : (more : List ℕ) → Behind more → (gone : List ℕ) → KnowsBases more old gone → KnowsBases more new gone
   pub few : known_with_cr new + 6 * old.place ≤ known_with_cr old + 6 * new.place
   pub left : (more : List ℕ) → Behind more → left_with new more ≡ left_with old more
   pub shows : (more : List ℕ) → Behind more → length (left_so_far old more).characters ≤ length (left_so_far new more).characters

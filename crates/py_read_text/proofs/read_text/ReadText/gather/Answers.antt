@@ -4,7 +4,7 @@ use Rattle.py_read_text.specs.Knowing.{TextView}
 use Rattle.py_read_text.specs.Reading.{IsAtEnd, Reads}
 use Rattle.py_read_text.proofs.Fetching.{reads_on}
 use Rattle.py_read_text.proofs.Ahead.{needs_at}
-use Rattle.py_read_text.proofs.Gathering.{looked, fails_there, gathers_more, holds_ended, asks_some, failed, waited, ended}
+use Rattle.py_read_text.proofs.Gathering.{looked, fails_there, gathers_more, holds_looked, holds_ended, asks_some, failed, waited, ended}
 use Rattle.py_read_text.proofs.read_text.ReadText.gather.Goals as goal
 
 pub returns-in-Some-clause-outcome : goal.returns-in-Some-clause-outcome
@@ -77,3 +77,12 @@ pub returns-in_err-fetch-clause-nothing : goal.returns-in_err-fetch-clause-nothi
 returns-in_err-fetch-clause-nothing g c =
     let looked = rw c.in_default.is at c.in_ok-stop.ensures.outcome in
     λ none. asks_some c.args.wanted _ _ _ looked.0 none
+
+pub invariant_of-self : goal.invariant_of-self
+invariant_of-self g c = holds_looked _ _ _ _ _ _ c.look.ensures.follows c.self-in-loop-stop.invariant
+
+pub invariant_of-self-in-Some : goal.invariant_of-self-in-Some
+invariant_of-self-in-Some g c = holds_looked _ _ _ _ _ _ c.look.ensures.follows c.self-in-loop-stop.invariant
+
+pub invariant_of-self-in-loop-stop : goal.invariant_of-self-in-loop-stop
+invariant_of-self-in-loop-stop g c = holds_looked _ _ _ _ _ _ c.look.ensures.follows c.self-in-loop-stop.invariant

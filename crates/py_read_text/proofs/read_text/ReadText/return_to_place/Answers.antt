@@ -1,8 +1,15 @@
 use Rattle.std.proofs.Common.{ap, ◌∙◌, refl, arith}
 use Rattle.py_read_text.specs.Knowing.{TextView}
 use Rattle.py_read_text.proofs.Owing.{joined_of}
-use Rattle.py_read_text.proofs.Placing.{is_ahead, sought_at, text_unreturned, returned_so}
+use Rattle.py_read_text.proofs.Placing.{is_ahead, sought_at, text_returned, text_unreturned, returned_so}
 use Rattle.py_read_text.proofs.read_text.ReadText.return_to_place.Goals as goal
+
+pub invariant_of-self : goal.invariant_of-self
+invariant_of-self g c =
+    let live = ap (λ (view : TextView). view.buffer.life) c.self.view_is ∙ c.requires.live in
+    let writes = ap (λ (view : TextView). view.buffer.can.writable) c.self.view_is ∙ c.requires.writes in
+    let ahead = is_ahead _ c.self.inside.held c.self.inside.at _ _ live writes c.seekable.ensures.moves (λ same. c.if-place-undecoded.false (omega (arith, c.place.ensures.place, c.undecoded.ensures, same))) c.self.invariant in
+    text_returned _ _ c.self.inside.held c.clear.new.self c.self.inside.at _ _ _ ahead (sought_at _ _ c.self.inside.held c.self.inside.at _ _ _ c.self.invariant c.in-Ok.ensures) (ap (λ (view : TextView). view.taken) c.self.view_is ∙ c.requires.clean.taken) c.clear.ensures.cleared c.self.invariant
 
 pub invariant_of-self-in-Err : goal.invariant_of-self-in-Err
 invariant_of-self-in-Err g c =
