@@ -1,6 +1,8 @@
 -- A session's calls and replies as the models see them.
-use Rattle.py_flat.specs.Calls.{FileCall, FileReply, Bytes, Text, Lines, Count, Place, Done, NotReady, Flag, Name, Unwritten, Refused}
+use Rattle.py_flat.specs.Calls.{FileCall, FileReply, Bytes, Text, Lines, Count, Place, Cookie, Done, NotReady, Flag, Name, Unwritten, Refused}
 use Rattle.py_flat.specs.Calls as file
+use Rattle.py_plain_text.specs.Cookie.{cookie_bytes}
+use Rattle.py_plain_text.specs.CookieView.{cookie_shown}
 use Rattle.py_plain_text.specs.TextCalls as text
 use Rattle.py_plain_text.specs.TextCalls.{TextFileCall}
 use Rattle.py_text.specs.Settings.{changes_of}
@@ -14,6 +16,7 @@ abbrev pub text_call : Call → TextFileCall
 text_call (call.Read size) = text.Read size
 text_call (call.ReadLine limit) = text.ReadLine limit
 text_call (call.WriteText characters) = text.WriteText characters
+text_call call.Tell = text.Tell
 text_call (call.SetChunkSize size) = text.SetChunkSize size
 text_call (call.Reconfigure changes) = text.Reconfigure (changes_of changes)
 text_call call.Flush = text.Flush
@@ -64,6 +67,7 @@ said (reply.Text characters) = Text characters
 said (reply.Lines lines) = Lines lines
 said (reply.Count count) = Count count
 said (reply.Place place) = Place place
+said (reply.Cookie cookie) = Cookie (cookie_bytes (cookie_shown cookie))
 said reply.Done = Done
 said reply.NotReady = NotReady
 said (reply.Flag value) = Flag value

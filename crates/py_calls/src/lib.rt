@@ -7,5 +7,6 @@ mod call;
 mod reply;
 
 pub use call::Call;
+pub use py_plain_text::TextIOCookie;
 pub use py_text::Reconfigure;
 pub use reply::Reply;

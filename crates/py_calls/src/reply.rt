@@ -4,6 +4,7 @@ ghost use Rattle.py_calls.specs.Calls.{said};
 ghost use Rattle.py_stream.specs.Kinds.{says_wait, says_fault};
 
 use py_flat::{Chars, Data, IoFault, Lines};
+use py_plain_text::TextIOCookie;
 use std::alloc::{AllocError, Global};
 
 /// What a session answers to a call. `Session::call` says which replies come of which call.
@@ -19,6 +20,8 @@ pub enum Reply {
     Count(u64),
     /// A place from the start of the stream, or the size of a truncated file, in bytes.
     Place(u64),
+    /// Where a text stands.
+    Cookie(TextIOCookie),
     /// The call was carried out, and has nothing else to say.
     Done,
     /// The raw would have blocked before there was anything to answer: nothing was taken, and the call may be made again.
@@ -45,6 +48,7 @@ impl Reply {
             Reply::Lines(lines) => Reply::Lines(lines.try_clone(alloc)?),
             Reply::Count(count) => Reply::Count(*count),
             Reply::Place(place) => Reply::Place(*place),
+            Reply::Cookie(cookie) => Reply::Cookie(*cookie),
             Reply::Done => Reply::Done,
             Reply::NotReady => Reply::NotReady,
             Reply::Flag(value) => Reply::Flag(*value),

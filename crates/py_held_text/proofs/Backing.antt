@@ -11,7 +11,7 @@ use Rattle.py_plain.specs.NewlineRule.{read_so_far}
 use Rattle.py_text.specs.declared.coder.Coder.{Coder}
 use Rattle.py_held_text.specs.declared.base.Mark.{Mark}
 use Rattle.py_held_text.specs.declared.base.BaseMove.{BaseMove}
-use Rattle.py_held_text.proofs.Marking.{either-mark, no-cr}
+use Rattle.py_held_text.proofs.Marking.{either-mark, no-cr, not-base}
 use Rattle.py_held_text.specs.Held.{back_of, comes_next, mark_by, base_behind, given_on, held_anew, IsMark, IsHeld}
 use Rattle.py_held_text.specs.Known.{KnownView, reading}
 use Rattle.py_held_text.proofs.Reading.{one-if, read-few}
@@ -39,7 +39,7 @@ back-whole gone decoded items from =
     sym (take-append-drop (decoded - gone) (drop gone items)) ∙ ap (λ (t : List ℕ). back_of gone decoded items ++ t) (drop-drop (decoded - gone) gone items ∙ ap (λ (n : ℕ). drop n items) there)
 
 -- none was decoded
-back-none : (gone : ℕ) (items : List ℕ) → back_of gone gone items ≡ []
+pub back-none : (gone : ℕ) (items : List ℕ) → back_of gone gone items ≡ []
 back-none gone items =
     let none : gone - gone ≡ 0 = omega arith in
     ap (λ (n : ℕ). take n (drop gone items)) none
@@ -53,12 +53,12 @@ back-passed gone decoded passed items within =
 
 -- What is in hand.
 
-pub anew-by : (coder reading_coder : Coder) (known after : KnownView) (newline : Newlines) (items : List ℕ) (gone decoded given place room : ℕ) (mark : Option Mark) → gone ≤ decoded → decoded ≤ len items → after ≡ record { newline = newline; characters = []; cr = false } → held-by reading_coder after (back_of gone gone items) 0 None (drop gone items) (place - (decoded - gone)) room ≡ held_anew reading_coder newline (held-by coder known (back_of gone decoded items) given mark (drop decoded items) place room)
-anew-by coder reading_coder known after newline items gone decoded given place room mark from within after_is =
-    ap (λ (k : KnownView). held-by reading_coder k (back_of gone gone items) 0 None (drop gone items) (place - (decoded - gone)) room) after_is
-    ∙ (ap (λ (b : List ℕ). held-by reading_coder (record { newline = newline; characters = []; cr = false }) b 0 None (drop gone items) (place - (decoded - gone)) room) (back-none gone items)
-    ∙ (ap (λ (b : List ℕ). held-by reading_coder (record { newline = newline; characters = []; cr = false }) [] 0 None b (place - (decoded - gone)) room) (back-whole gone decoded items from)
-    ∙ ap (λ (n : ℕ). held-by reading_coder (record { newline = newline; characters = []; cr = false }) [] 0 None (back_of gone decoded items ++ drop decoded items) (place - n) room) (sym (back-length gone decoded items from within))))
+pub anew-by : (coder reading_coder : Coder) (known after : KnownView) (newline : Newlines) (items : List ℕ) (gone decoded given place room : ℕ) (mark : Option Mark) (ended : Bool) → gone ≤ decoded → decoded ≤ len items → after ≡ record { newline = newline; characters = []; cr = false } → held-by reading_coder after (back_of gone gone items) 0 None false (drop gone items) (place - (decoded - gone)) room ≡ held_anew reading_coder newline (held-by coder known (back_of gone decoded items) given mark ended (drop decoded items) place room)
+anew-by coder reading_coder known after newline items gone decoded given place room mark ended from within after_is =
+    ap (λ (k : KnownView). held-by reading_coder k (back_of gone gone items) 0 None false (drop gone items) (place - (decoded - gone)) room) after_is
+    ∙ (ap (λ (b : List ℕ). held-by reading_coder (record { newline = newline; characters = []; cr = false }) b 0 None false (drop gone items) (place - (decoded - gone)) room) (back-none gone items)
+    ∙ (ap (λ (b : List ℕ). held-by reading_coder (record { newline = newline; characters = []; cr = false }) [] 0 None false b (place - (decoded - gone)) room) (back-whole gone decoded items from)
+    ∙ ap (λ (n : ℕ). held-by reading_coder (record { newline = newline; characters = []; cr = false }) [] 0 None false (back_of gone decoded items ++ drop decoded items) (place - n) room) (sym (back-length gone decoded items from within))))
 
 -- the base passes no more than what was decoded
 passed-if : (behind : Bool) (one other : BaseMove) (back : ℕ) → one.passed ≤ back → other.passed ≤ back → (if behind then one else other).passed ≤ back
@@ -69,15 +69,15 @@ passed-within : (count given known back : ℕ) (cr : Bool) (mark : Option Mark) 
 passed-within count given known back cr None marked = omega arith
 passed-within count given known back cr (Some mark) marked = passed-if (nat_lt mark.count count) _ _ back marked.passed (omega arith)
 
-pub given-by : (coder : Coder) (known after : KnownView) (items items_now : List ℕ) (gone decoded given place room old_room count : ℕ) (mark : Option Mark) (base : BaseMove) → gone ≤ decoded → IfSome mark (IsMark (len known.characters) (decoded - gone) known.cr) → base ≡ base_behind count given mark → after ≡ record known { characters = drop count known.characters } → items_now ≡ items → held-by coder after (back_of (gone + base.passed) decoded items_now) base.given base.mark (drop decoded items_now) place room ≡ record (given_on count (held-by coder known (back_of gone decoded items) given mark (drop decoded items) place old_room)) { room = room }
-given-by coder known after items items_now gone decoded given place room old_room count mark base from marked base_is after_is items_are =
+pub given-by : (coder : Coder) (known after : KnownView) (items items_now : List ℕ) (gone decoded given place room old_room count : ℕ) (mark : Option Mark) (ended : Bool) (base : BaseMove) → gone ≤ decoded → IfSome mark (IsMark (len known.characters) (decoded - gone) known.cr) → base ≡ base_behind count given mark → after ≡ record known { characters = drop count known.characters } → items_now ≡ items → held-by coder after (back_of (gone + base.passed) decoded items_now) base.given base.mark ended (drop decoded items_now) place room ≡ record (given_on count (held-by coder known (back_of gone decoded items) given mark ended (drop decoded items) place old_room)) { room = room }
+given-by coder known after items items_now gone decoded given place room old_room count mark ended base from marked base_is after_is items_are =
     let own : BaseMove = base_behind count given mark in
     let rest : KnownView = record known { characters = drop count known.characters } in
     let fits : gone + own.passed ≤ decoded = omega (arith, from, passed-within count given (len known.characters) (decoded - gone) known.cr mark marked) in
-    ap (λ (k : KnownView). held-by coder k (back_of (gone + base.passed) decoded items_now) base.given base.mark (drop decoded items_now) place room) after_is
-    ∙ (ap (λ (all : List ℕ). held-by coder rest (back_of (gone + base.passed) decoded all) base.given base.mark (drop decoded all) place room) items_are
-    ∙ (ap (λ (b : BaseMove). held-by coder rest (back_of (gone + b.passed) decoded items) b.given b.mark (drop decoded items) place room) base_is
-    ∙ ap (λ (b : List ℕ). held-by coder rest b own.given own.mark (drop decoded items) place room) (back-passed gone decoded own.passed items fits)))
+    ap (λ (k : KnownView). held-by coder k (back_of (gone + base.passed) decoded items_now) base.given base.mark ended (drop decoded items_now) place room) after_is
+    ∙ (ap (λ (all : List ℕ). held-by coder rest (back_of (gone + base.passed) decoded all) base.given base.mark ended (drop decoded all) place room) items_are
+    ∙ (ap (λ (b : BaseMove). held-by coder rest (back_of (gone + b.passed) decoded items) b.given b.mark ended (drop decoded items) place room) base_is
+    ∙ ap (λ (b : List ℕ). held-by coder rest b own.given own.mark ended (drop decoded items) place room) (back-passed gone decoded own.passed items fits)))
 
 -- what is told of the bytes from the base on
 pub told-by : (encoding : Encoding) (handler : Handler) (newline rule : Newlines) (last : Bool) (gone decoded place given : ℕ) (items bytes : List ℕ) (told : Told) → gone ≤ decoded → decoded ≤ len items → rule ≡ newline → bytes ≡ drop gone items → IsToldAmong encoding handler rule last (place - (decoded - gone)) given bytes told → IsToldAmong encoding handler newline last (place - len (back_of gone decoded items)) given (back_of gone decoded items ++ drop decoded items) told
@@ -86,12 +86,20 @@ told-by encoding handler newline rule last gone decoded place given items bytes 
     (subst (λ (b : List ℕ). IsToldAmong encoding handler newline last (place - (decoded - gone)) given b told) (bytes_are ∙ back-whole gone decoded items from)
     (subst (λ (n : Newlines). IsToldAmong encoding handler n last (place - (decoded - gone)) given bytes told) rule_is is))
 
+-- what is told by them stands no earlier than the base, and reaches no further than the bytes in hand
+pub told-forth : (gone decoded place start : ℕ) (items : List ℕ) → gone ≤ decoded → decoded ≤ len items → place - (decoded - gone) ≤ start → place - len (back_of gone decoded items) ≤ start
+told-forth gone decoded place start items from within forth = omega (arith, forth, back-length gone decoded items from within)
+
+pub told-fits : (gone decoded place far : ℕ) (items bytes : List ℕ) → gone ≤ decoded → decoded ≤ len items → decoded ≤ place + gone → bytes ≡ drop gone items → far ≤ (place - (decoded - gone)) + len bytes → far ≤ place + len (drop decoded items)
+told-fits gone decoded place far items bytes from within behind bytes_are fits = omega (arith, from, within, behind, fits, ap len bytes_are, length-drop gone items, length-drop decoded items)
+
 -- How many characters.
 
 kept-more : (mark : Option Mark) (cr now : Bool) (known after back used : ℕ) → known ≤ after → after + one-if now ≤ known + one-if cr + 6 * used → IfSome mark (IsMark known back cr) → IfSome mark (IsMark after (back + used) now)
 kept-more None cr now known after back used grows few marked = tt
 kept-more (Some mark) cr now known after back used grows few marked = record {
   count = omega (arith, marked.count, grows);
+  some = marked.some;
   passed = omega (arith, marked.passed);
   few = omega (arith, marked.few, few);
 }
@@ -100,7 +108,7 @@ marked-more : (mark : Option Mark) (cr now : Bool) (known after back used : ℕ)
 marked-more mark cr now known after back used grows few marked =
     either-mark (IsMark after (back + used) now) ((cr || nat_eq back 0) || comes_next mark) mark (record { count = known; passed = back })
     (kept-more mark cr now known after back used grows few marked)
-    (λ sets. record { count = grows; passed = omega arith; few = omega (arith, few, ap one-if (no-cr cr (nat_eq back 0) (comes_next mark) sets)) })
+    (λ sets. record { count = grows; some = not-base cr back (comes_next mark) sets; passed = omega arith; few = omega (arith, few, ap one-if (no-cr cr (nat_eq back 0) (comes_next mark) sets)) })
 
 -- what holds of what is in hand, once more was decoded
 pub held-more : (known after : KnownView) (cs : List ℕ) (mark now : Option Mark) (total gone decoded used place given count passed : ℕ) → IsHeld total gone decoded place (len known.characters) given known.cr mark → after ≡ reading known cs → len cs ≤ 6 * used → decoded + used ≤ total → now ≡ mark_by mark known.cr count passed → count ≡ len known.characters → passed ≡ decoded - gone → IsHeld total gone (decoded + used) (place + used) (len after.characters) given after.cr now

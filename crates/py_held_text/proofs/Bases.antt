@@ -1,23 +1,28 @@
 -- What is known of the base and of the mark stays so.
-use Rattle.std.proofs.Common.{◌≡◌, ℕ, ◌+◌, ◌-◌, ◌≤◌, ◌<◌, ◌||◌, Bool, true, false, nat_eq, nat_lt, if◌then◌else◌, List, [], ◌++◌, length, take, drop, ◌⊎◌, inl, inr, Option, Some, None, IfSome, refl, sym, ap, subst, ◌∙◌, arith}
+use Rattle.std.proofs.Common.{◌≡◌, ℕ, ◌+◌, ◌-◌, ◌≤◌, ◌<◌, ◌||◌, Bool, true, false, true≢false, nat_eq, nat_lt, if◌then◌else◌, List, [], ◌++◌, length, take, drop, ◌⊎◌, inl, inr, Option, Some, None, IfSome, is_some, refl, sym, ap, subst, ◌∙◌, arith}
 use Rattle.std.proofs.lemmas.Bool.{ltb-true, ltb-false}
-use Rattle.std.proofs.lemmas.List.{append_assoc, length-append, length-drop, length-take-le, take-append-drop, drop-append-le, drop-drop}
+use Rattle.std.proofs.lemmas.List.{append-nil, append_assoc, length-append, length-drop, length-take-le, take-append-drop, drop-append-le, drop-drop}
 use Rattle.std.proofs.Math.Seq.{drop-append_seam}
 use Rattle.py_plain.specs.declared.encoding.Encoding.{Encoding}
 use Rattle.py_plain.specs.declared.handler.Handler.{Handler}
 use Rattle.py_plain.specs.declared.newlines.Newlines.{Newlines}
-use Rattle.py_plain.specs.Units.{Order}
-use Rattle.py_plain.specs.Items.{Walk, characters_of, refusal_of}
-use Rattle.py_plain.specs.Handlers.{treatment}
-use Rattle.py_plain.specs.Pieces.{walk_at, items_before}
-use Rattle.py_plain.specs.NewlineRule.{read_so_far, read_all}
+use Rattle.py_plain.specs.declared.newlines.Newlines.TheVariants as rule
+use Rattle.py_plain.specs.Units.{Order, Unknown}
+use Rattle.py_plain.specs.Items.{Item, Ending, AtEnd, AtRange, AtCut, Walk, characters_of, refusal_of}
+use Rattle.py_plain.specs.Handlers.{Treatment, treatment, reads_texts}
+use Rattle.py_plain.specs.Pieces.{LooksAtRange, walk_at, items_before, place_behind, unused, unless_refused}
+use Rattle.py_plain.specs.NewlineRule.{read_so_far, read_all, translated_to}
+use Rattle.py_plain.proofs.Joining.{two}
+use Rattle.py_plain.proofs.Looking.{reading as looks_at}
 use Rattle.py_plain_text.specs.Rest.{Rest}
+use Rattle.py_telling.specs.InHand.{surely_given}
+use Rattle.py_telling.proofs.Anywhere.{alike_anywhere}
 use Rattle.py_held_text.specs.declared.base.Mark.{Mark}
 use Rattle.py_held_text.specs.declared.base.BaseMove.{BaseMove}
-use Rattle.py_held_text.specs.Held.{HeldView, ahead, base_of, whole_of, comes_next, base_behind, given_on, left_with, left_so_far}
+use Rattle.py_held_text.specs.Held.{HeldView, ahead, base_of, whole_of, comes_next, base_behind, given_on, left_with, left_so_far, read_until, left_surely}
 use Rattle.py_held_text.proofs.Marking.{either-mark, no-cr}
-use Rattle.py_held_text.specs.Decodes.{KeepsSettings, Passes, Decodes}
-use Rattle.py_held_text.specs.Bases.{from_base, rebased, with_gone, without, IsBack, KnowsBase, MarkStands, KnowsBases, ShowsBase, MarkShows, ShowsBases}
+use Rattle.py_held_text.specs.Decodes.{KeepsSettings, Passes, Decodes, IsStopped}
+use Rattle.py_held_text.specs.Bases.{from_base, rebased, with_gone, without, IsBack, KnowsBase, MarkStands, KnowsBases, SureBase, SureMark, SureBases, GaveSurely}
 use Rattle.py_held_text.proofs.Walking.{both-before}
 
 -- Items.
@@ -40,7 +45,7 @@ pub record SameBase (old new : HeldView) : Type 0 where
   pub whole : whole_of new ≡ whole_of old
 
 abbrev from-there : Encoding → Handler → Newlines → Order → (place : ℕ) → (bytes : List ℕ) → (room : ℕ) → HeldView
-from-there encoding handler newline order place bytes room = record { encoding = encoding; handler = handler; newline = newline; known = []; cr = false; back = []; given = 0; mark = None; bytes = bytes; place = place; order = order; room = room }
+from-there encoding handler newline order place bytes room = record { encoding = encoding; handler = handler; newline = newline; known = []; cr = false; back = []; given = 0; mark = None; ended = false; bytes = bytes; place = place; order = order; room = room }
 
 from-same : (old new : HeldView) (passed : ℕ) → SameBase old new → from_base new passed ≡ record (from_base old passed) { room = new.room }
 from-same old new passed same =
@@ -56,8 +61,8 @@ from-same old new passed same =
 left-same : (old new : HeldView) (passed : ℕ) → SameBase old new → (more : List ℕ) → left_with (from_base new passed) more ≡ left_with (from_base old passed) more
 left-same old new passed same more = ap (λ (held : HeldView). left_with held more) (from-same old new passed same)
 
-so-far-same : (old new : HeldView) (passed : ℕ) → SameBase old new → (more : List ℕ) → left_so_far (from_base new passed) more ≡ left_so_far (from_base old passed) more
-so-far-same old new passed same more = ap (λ (held : HeldView). left_so_far held more) (from-same old new passed same)
+surely-same : (old new : HeldView) (passed : ℕ) → SameBase old new → (more : List ℕ) → left_surely (from_base new passed) more ≡ left_surely (from_base old passed) more
+surely-same old new passed same more = ap (λ (held : HeldView). left_surely held more) (from-same old new passed same)
 
 pub ahead-same : (old new : HeldView) (passed : ℕ) → SameBase old new → (more : List ℕ) → ahead (from_base new passed) true more ≡ ahead (from_base old passed) true more
 ahead-same old new passed same more = ap (λ (held : HeldView). ahead held true more) (from-same old new passed same)
@@ -99,7 +104,7 @@ bases-follow more old new gone same place back given mark grows left items is = 
 -- Nothing is known yet.
 
 abbrev pub nothing-from : HeldView → HeldView
-nothing-from start = record start { known = []; cr = false; back = []; given = 0; mark = None }
+nothing-from start = record start { known = []; cr = false; back = []; given = 0; mark = None; ended = false }
 
 rebased-nothing : (start : HeldView) → rebased (nothing-from start) ≡ nothing-from start
 rebased-nothing start =
@@ -117,8 +122,15 @@ bases-nothing more start = record {
   mark = tt;
 }
 
-pub shows-nothing : (more : List ℕ) (start : HeldView) → ShowsBases more (nothing-from start) []
-shows-nothing more start = record { back = omega arith; base = ap (λ (held : HeldView). left_so_far held more) (rebased-nothing start); mark = tt }
+pub sure-nothing : (start : HeldView) → GaveSurely (nothing-from start)
+sure-nothing start = λ more. (
+  [],
+  record {
+    back = omega arith;
+    base = record { count = refl; left = ap (λ (held : HeldView). left_surely held more) (rebased-nothing start) };
+    mark = tt;
+  },
+)
 
 -- Bytes were decoded.
 
@@ -155,13 +167,13 @@ left-here held behind none more =
     ∙ (ap (λ (cr : Bool). rest-of (read_all held.newline cr all) stop) (sym none)
     ∙ ap (λ (cs : List ℕ). rest-of cs stop) (sym (drop-append_seam held.known (read_all held.newline held.cr all))))
 
-so-far-here : (held : HeldView) → IsBack held → held.cr ≡ false → (more : List ℕ) → left_so_far (from_base held (length held.back)) more ≡ without (length held.known) (left_so_far held more)
-so-far-here held behind none more =
+surely-here : (held : HeldView) → IsBack held → held.cr ≡ false → (more : List ℕ) → left_surely (from_base held (length held.back)) more ≡ without (length held.known) (left_surely held more)
+surely-here held behind none more =
     let all : List ℕ = characters_of (ahead held false more).items in
     let stop : Option (ℕ × ℕ) = refusal_of (ahead held false more).ending in
-    ap (λ (own : HeldView). left_so_far own more) (from-here held behind)
-    ∙ (ap (λ (cr : Bool). rest-of (read_so_far held.newline cr all) stop) (sym none)
-    ∙ ap (λ (cs : List ℕ). rest-of cs stop) (sym (drop-append_seam held.known (read_so_far held.newline held.cr all))))
+    ap (λ (own : HeldView). left_surely own more) (from-here held behind)
+    ∙ (ap (λ (cr : Bool). rest-of (read_until (is_some stop) held.newline cr all) stop) (sym none)
+    ∙ ap (λ (cs : List ℕ). rest-of cs stop) (sym (drop-append_seam held.known (read_until (is_some stop) held.newline held.cr all))))
 
 ahead-here : (held : HeldView) → IsBack held → (more : List ℕ) → ahead (from_base held (length held.back)) true more ≡ ahead held true more
 ahead-here held behind more = ap (λ (own : HeldView). ahead own true more) (from-here held behind)
@@ -191,25 +203,114 @@ bases-decoded more last old new gone ends decodes is = record {
       (λ sets. new-mark more last old new gone ends is.back (no-cr old.cr (nat_eq (length old.back) 0) (comes_next old.mark) sets) decodes is.base));
 }
 
-abbrev MarkShown : (more : List ℕ) → HeldView → Mark → Type 0
-MarkShown more held mark = (mark.passed ≤ length held.back) × MarkShows more held mark
+-- What is surely left.
 
-pub shows-decoded : (more : List ℕ) (old new : HeldView) (gone : List ℕ) → Decodes false old new → ShowsBases more old gone → ShowsBases more new gone
-shows-decoded more old new gone decodes is = record {
-  back = omega (arith, back-grows false old new decodes, decodes.place, is.back);
-  base = so-far-same old new 0 same more ∙ (is.base ∙ ap (with_gone gone) (sym (decodes.so_far refl more)));
-  mark = subst (λ (mark : Option Mark). IfSome mark (MarkShown more new)) (sym decodes.mark)
-      (either-mark (MarkShown more new) ((old.cr || nat_eq (length old.back) 0) || comes_next old.mark) old.mark (record { count = length old.known; passed = length old.back })
-      (kept old.mark is.mark)
-      (λ sets. (omega (arith, back-grows false old new decodes), so-far-same old new (length old.back) same more ∙ (so-far-here old is.back (no-cr old.cr (nat_eq (length old.back) 0) (comes_next old.mark) sets) more ∙ ap (without (length old.known)) (sym (decodes.so_far refl more))))));
+-- a decoding that a refused range ends while more may come is the same where none comes
+refused-while : (encoding : Encoding) (treat : Treatment) → LooksAtRange treat → (order : Order) (place : ℕ) (bytes : List ℕ) (ending : Ending) (range : ℕ × ℕ) → (walk_at encoding treat false order place bytes).ending ≡ ending → refusal_of ending ≡ Some range → walk_at encoding treat true order place bytes ≡ walk_at encoding treat false order place bytes
+refused-while encoding treat looks order place bytes AtEnd range is refused = absurd (cc)
+refused-while encoding treat looks order place bytes (AtCut at) range is refused = absurd (cc)
+refused-while encoding treat looks order place bytes (AtRange start end) range is refused =
+    let first : Walk = walk_at encoding treat false order place bytes in
+    ap (walk_at encoding treat true order place) (sym (append-nil bytes))
+    ∙ (sym (two encoding treat looks true order place bytes [])
+    ∙ (ap (λ (e : Ending). items_before first.items (unless_refused first.order e (walk_at encoding treat true first.order (place_behind place bytes e) (unused place bytes e ++ [])))) is
+    ∙ (ap (λ (e : Ending). let own : Walk = record first { items = first.items ++ []; ending = e } in own) (sym is)
+    ∙ ap (λ (items : List Item). record first { items = items }) (append-nil first.items))))
+
+-- where no range is refused, it is what is left so far
+surely-open : (held : HeldView) (more : List ℕ) → refusal_of (ahead held false more).ending ≡ None → left_surely held more ≡ left_so_far held more
+surely-open held more none =
+    let walk : Walk = ahead held false more in
+    ap (λ (stop : Option (ℕ × ℕ)). rest-of (held.known ++ read_until (is_some stop) held.newline held.cr (characters_of walk.items)) (refusal_of walk.ending)) none
+
+-- where one is, it is what is left
+surely-stopped : (held : HeldView) (more : List ℕ) (range : ℕ × ℕ) → reads_texts held.handler ≡ true → refusal_of (ahead held false more).ending ≡ Some range → left_surely held more ≡ left_with held more
+surely-stopped held more range reads refused =
+    let walk : Walk = ahead held false more in
+    ap (λ (stop : Option (ℕ × ℕ)). rest-of (held.known ++ read_until (is_some stop) held.newline held.cr (characters_of walk.items)) (refusal_of walk.ending)) refused
+    ∙ ap (λ (w : Walk). rest-of (held.known ++ read_all held.newline held.cr (characters_of w.items)) (refusal_of w.ending)) (sym (refused-while held.encoding (treatment held.handler held.encoding) (looks_at held.handler held.encoding reads) held.order held.place (held.bytes ++ more) walk.ending range refl refused))
+
+surely-decoded : (more : List ℕ) (old new : HeldView) → reads_texts old.handler ≡ true → Decodes false old new → left_surely new more ≡ left_surely old more
+surely-decoded more old new reads decodes = by-stop (refusal_of (ahead old false more).ending) refl
+  where
+    stop-same : refusal_of (ahead new false more).ending ≡ refusal_of (ahead old false more).ending
+    stop-same = ap (λ (rest : Rest). rest.refusal) (decodes.so_far refl more)
+
+    by-stop : (stop : Option (ℕ × ℕ)) → refusal_of (ahead old false more).ending ≡ stop → left_surely new more ≡ left_surely old more
+    by-stop None is = surely-open new more (stop-same ∙ is) ∙ (decodes.so_far refl more ∙ sym (surely-open old more is))
+    by-stop (Some range) is =
+        surely-stopped new more range (ap reads_texts decodes.settings.handler ∙ reads) (stop-same ∙ is)
+        ∙ (decodes.left more (λ last. absurd (true≢false (sym last))) ∙ sym (surely-stopped old more range reads is))
+
+sure-base : (more : List ℕ) (old new : HeldView) (gone : List ℕ) → SameBase old new → new.given ≡ old.given → left_surely new more ≡ left_surely old more → SureBase more old gone → SureBase more new gone
+sure-base more old new gone same given left is = record {
+  count = is.count ∙ sym given;
+  left = surely-same old new 0 same more ∙ (is.left ∙ ap (with_gone gone) (sym left));
 }
+
+sure-mark : (more : List ℕ) (old new : HeldView) (mark : Option Mark) → SameBase old new → length old.back ≤ length new.back → left_surely new more ≡ left_surely old more → IfSome mark (SureMark more old) → IfSome mark (SureMark more new)
+sure-mark more old new None same further left is = tt
+sure-mark more old new (Some mark) same further left is = record {
+  passed = omega (arith, is.passed, further);
+  left = surely-same old new mark.passed same more ∙ (is.left ∙ ap (without mark.count) (sym left));
+}
+
+-- more may come behind the bytes that were decoded
+pub sure-decoded : (old new : HeldView) → reads_texts old.handler ≡ true → Decodes false old new → GaveSurely old → GaveSurely new
+sure-decoded old new reads decodes gave = λ more. ((gave more).0, by-bases more (gave more).0 (gave more).1)
   where
     same : SameBase old new
     same = same-decoded false old new decodes
 
-    kept : (mark : Option Mark) → IfSome mark (MarkShown more old) → IfSome mark (MarkShown more new)
-    kept None own = tt
-    kept (Some mark) own = (omega (arith, back-grows false old new decodes, own.0), so-far-same old new mark.passed same more ∙ (own.1 ∙ ap (without mark.count) (sym (decodes.so_far refl more))))
+    by-bases : (more gone : List ℕ) → SureBases more old gone → SureBases more new gone
+    by-bases more gone is =
+        let left = surely-decoded more old new reads decodes in
+        record {
+          back = omega (arith, back-grows false old new decodes, decodes.place, is.back);
+          base = sure-base more old new gone same decodes.given left is.base;
+          mark = subst (λ (mark : Option Mark). IfSome mark (SureMark more new)) (sym decodes.mark)
+              (either-mark (SureMark more new) ((old.cr || nat_eq (length old.back) 0) || comes_next old.mark) old.mark (record { count = length old.known; passed = length old.back })
+              (sure-mark more old new old.mark same (omega (arith, back-grows false old new decodes)) left is.mark)
+              (λ sets. record {
+                passed = omega (arith, back-grows false old new decodes);
+                left = surely-same old new (length old.back) same more ∙ (surely-here old is.back (no-cr old.cr (nat_eq (length old.back) 0) (comes_next old.mark) sets) more ∙ ap (without (length old.known)) (sym left));
+              }));
+        }
+
+-- A CR that was held was given as an LF.
+
+abbrev pub released-known : HeldView → HeldView
+released-known held = record held { known = held.known ++ read_all held.newline held.cr []; cr = false }
+
+none-held : (newline : Newlines) → read_all newline false [] ≡ []
+none-held rule.Universal = refl
+none-held rule.Passthrough = refl
+none-held rule.Lf = refl
+none-held rule.Cr = refl
+none-held rule.Crlf = refl
+
+-- a refused range comes right behind it
+surely-released : (more : List ℕ) (held : HeldView) → IsStopped held → left_surely (released-known held) more ≡ left_surely held more
+surely-released more held stops =
+    let given : List ℕ = held.known ++ read_all held.newline held.cr [] in
+    let over : (known : List ℕ) (cr : Bool) → Walk → Rest = λ known cr walk. rest-of (known ++ read_until (is_some (refusal_of walk.ending)) held.newline cr (characters_of walk.items)) (refusal_of walk.ending) in
+    let stopped = stops.1.so_far refl more in
+    ap (over given false) stopped
+    ∙ (ap (λ (cs : List ℕ). rest-of cs (Some stops.0)) (ap (λ (cs : List ℕ). given ++ cs) (none-held held.newline) ∙ append-nil given)
+    ∙ sym (ap (over held.known held.cr) stopped))
+
+pub sure-released : (held : HeldView) → IsStopped held → GaveSurely held → GaveSurely (released-known held)
+sure-released held stops gave = λ more.
+    let is = (gave more).1 in
+    let same : SameBase held (released-known held) = record { settings = record { encoding = refl; handler = refl; newline = refl }; order = refl; base = refl; whole = refl } in
+    let left = surely-released more held stops in (
+      (gave more).0,
+      record {
+        back = is.back;
+        base = sure-base more held (released-known held) (gave more).0 same refl left is.base;
+        mark = sure-mark more held (released-known held) held.mark same (omega arith) left is.mark;
+      },
+    )
 
 -- Characters were given.
 
@@ -251,10 +352,15 @@ base-stays more held gone count room mark within is =
       items = is.items;
     }
 
-shows-stays : (more : List ℕ) (held : HeldView) (gone : List ℕ) (count room : ℕ) (mark : Option Mark) → ShowsBase more held gone → ShowsBase more (gave count (stays held count mark) room held) (gone ++ take count held.known)
-shows-stays more held gone count room mark is =
-    let sure : List ℕ = read_so_far held.newline held.cr (characters_of (ahead held false more).items) in
-    is ∙ ap (λ (cs : List ℕ). rest-of cs (refusal_of (ahead held false more).ending)) (given-before gone held.known sure count)
+-- what a decoding surely gives behind what is known
+abbrev surely-behind : HeldView → List ℕ → List ℕ
+surely-behind held more = read_until (is_some (refusal_of (ahead held false more).ending)) held.newline held.cr (characters_of (ahead held false more).items)
+
+sure-stays : (more : List ℕ) (held : HeldView) (gone : List ℕ) (count room : ℕ) (mark : Option Mark) → count ≤ length held.known → SureBase more held gone → SureBase more (gave count (stays held count mark) room held) (gone ++ take count held.known)
+sure-stays more held gone count room mark within is = record {
+  count = omega (arith, is.count, length-append gone (take count held.known), length-take-le count held.known within);
+  left = is.left ∙ ap (λ (cs : List ℕ). rest-of cs (refusal_of (ahead held false more).ending)) (given-before gone held.known (surely-behind held more) count);
+}
 
 abbrev nearer : ℕ → Mark → Mark
 nearer count mark = record mark { count = mark.count - count }
@@ -270,10 +376,11 @@ mark-stays more held count room mark within before is =
       behind = is.behind;
     }
 
-mark-shows-stays : (more : List ℕ) (held : HeldView) (count room : ℕ) (mark : Mark) → count ≤ length held.known → count ≤ mark.count → MarkShows more held mark → MarkShows more (gave count (stays held count (Some (nearer count mark))) room held) (nearer count mark)
-mark-shows-stays more held count room mark within before is =
-    let sure : List ℕ = read_so_far held.newline held.cr (characters_of (ahead held false more).items) in
-    is ∙ ap (λ (cs : List ℕ). rest-of cs (refusal_of (ahead held false more).ending)) (given-to-mark held.known sure mark.count count within before)
+sure-mark-stays : (more : List ℕ) (held : HeldView) (count room : ℕ) (mark : Mark) → count ≤ length held.known → count ≤ mark.count → SureMark more held mark → SureMark more (gave count (stays held count (Some (nearer count mark))) room held) (nearer count mark)
+sure-mark-stays more held count room mark within before is = record {
+  passed = is.passed;
+  left = is.left ∙ ap (λ (cs : List ℕ). rest-of cs (refusal_of (ahead held false more).ending)) (given-to-mark held.known (surely-behind held more) mark.count count within before);
+}
 
 -- the base moves to the mark
 abbrev moves : (count : ℕ) → Mark → BaseMove
@@ -301,11 +408,13 @@ base-moves more held count room mark within past behind is =
       items = (is.behind.0, ap (λ (at : HeldView). ahead at true more) there ∙ is.behind.1);
     }
 
-shows-moves : (more : List ℕ) (held : HeldView) (count room : ℕ) (mark : Mark) → count ≤ length held.known → mark.count ≤ count → mark.passed ≤ length held.back → IsBack held → MarkShows more held mark → ShowsBase more (gave count (moves count mark) room held) (past-mark held count mark)
-shows-moves more held count room mark within past passed behind is =
-    let sure : List ℕ = read_so_far held.newline held.cr (characters_of (ahead held false more).items) in
-    ap (λ (own : HeldView). left_so_far own more) (from-moved held count room mark passed behind)
-    ∙ (is ∙ ap (λ (cs : List ℕ). rest-of cs (refusal_of (ahead held false more).ending)) (given-past-mark held.known sure mark.count count within past))
+sure-moves : (more : List ℕ) (held : HeldView) (count room : ℕ) (mark : Mark) → count ≤ length held.known → mark.count ≤ count → IsBack held → SureMark more held mark → SureBase more (gave count (moves count mark) room held) (past-mark held count mark)
+sure-moves more held count room mark within past behind is = record {
+  count = omega (arith, length-take-le (count - mark.count) (drop mark.count held.known) (omega (arith, within, length-drop mark.count held.known)));
+  left =
+      ap (λ (own : HeldView). left_surely own more) (from-moved held count room mark is.passed behind)
+      ∙ (is.left ∙ ap (λ (cs : List ℕ). rest-of cs (refusal_of (ahead held false more).ending)) (given-past-mark held.known (surely-behind held more) mark.count count within past));
+}
 
 -- what is known once characters were given: the base passed some bytes, which are whole items; it moved only to where one was given since
 pub record GivenOn (more : List ℕ) (held new : HeldView) : Type 0 where
@@ -359,30 +468,33 @@ bases-given more held gone count room within is = by-mark held.mark is.mark
     by-mark (Some mark) own = by-count mark (nat_lt mark.count count) refl own
 
 -- so what is surely left goes on
-pub shows-given : (more : List ℕ) (held : HeldView) (gone : List ℕ) (count room : ℕ) → count ≤ length held.known → ShowsBases more held gone → (own : List ℕ) × ShowsBases more (record (given_on count held) { room = room }) own
-shows-given more held gone count room within is = by-mark held.mark is.mark
+sure-bases-given : (more : List ℕ) (held : HeldView) (gone : List ℕ) (count room : ℕ) → count ≤ length held.known → SureBases more held gone → (own : List ℕ) × SureBases more (record (given_on count held) { room = room }) own
+sure-bases-given more held gone count room within is = by-mark held.mark is.mark
   where
-    by-count : (mark : Mark) (past : Bool) → nat_lt mark.count count ≡ past → mark.passed ≤ length held.back → MarkShows more held mark → (own : List ℕ) × ShowsBases more (gave count (if past then moves count mark else stays held count (Some (nearer count mark))) room held) own
-    by-count mark true is_past fits own = (
+    by-count : (mark : Mark) (past : Bool) → nat_lt mark.count count ≡ past → SureMark more held mark → (own : List ℕ) × SureBases more (gave count (if past then moves count mark else stays held count (Some (nearer count mark))) room held) own
+    by-count mark true is_past own = (
       past-mark held count mark,
       record {
         back = omega (arith, is.back, length-drop mark.passed held.back);
-        base = shows-moves more held count room mark within (omega (arith, ltb-true mark.count count is_past)) fits is.back own;
+        base = sure-moves more held count room mark within (omega (arith, ltb-true mark.count count is_past)) is.back own;
         mark = tt;
       },
     )
-    by-count mark false is_past fits own = (
+    by-count mark false is_past own = (
       gone ++ take count held.known,
       record {
         back = is.back;
-        base = shows-stays more held gone count room (Some (nearer count mark)) is.base;
-        mark = (fits, mark-shows-stays more held count room mark within (ltb-false mark.count count is_past) own);
+        base = sure-stays more held gone count room (Some (nearer count mark)) within is.base;
+        mark = sure-mark-stays more held count room mark within (ltb-false mark.count count is_past) own;
       },
     )
 
-    by-mark : (mark : Option Mark) → IfSome mark (λ own. (own.passed ≤ length held.back) × MarkShows more held own) → (own : List ℕ) × ShowsBases more (gave count (base_behind count held.given mark) room held) own
-    by-mark None own = (gone ++ take count held.known, record { back = is.back; base = shows-stays more held gone count room None is.base; mark = tt })
-    by-mark (Some mark) own = by-count mark (nat_lt mark.count count) refl own.0 own.1
+    by-mark : (mark : Option Mark) → IfSome mark (SureMark more held) → (own : List ℕ) × SureBases more (gave count (base_behind count held.given mark) room held) own
+    by-mark None own = (gone ++ take count held.known, record { back = is.back; base = sure-stays more held gone count room None within is.base; mark = tt })
+    by-mark (Some mark) own = by-count mark (nat_lt mark.count count) refl own
+
+pub sure-given : (held : HeldView) (count room : ℕ) → count ≤ length held.known → GaveSurely held → GaveSurely (record (given_on count held) { room = room })
+sure-given held count room within gave = λ more. sure-bases-given more held (gave more).0 count room within (gave more).1
 
 -- Bytes were put behind those in hand.
 
@@ -405,7 +517,7 @@ left-over held known cr place all =
 abbrev sure-over : HeldView → (known : List ℕ) → (cr : Bool) → (place : ℕ) → List ℕ → Rest
 sure-over held known cr place all =
     let walk : Walk = walk_at held.encoding (treatment held.handler held.encoding) false held.order place all in
-    rest-of (known ++ read_so_far held.newline cr (characters_of walk.items)) (refusal_of walk.ending)
+    rest-of (known ++ read_until (is_some (refusal_of walk.ending)) held.newline cr (characters_of walk.items)) (refusal_of walk.ending)
 
 abbrev walk-over : HeldView → (place : ℕ) → List ℕ → Walk
 walk-over held place all = walk_at held.encoding (treatment held.handler held.encoding) true held.order place all
@@ -449,19 +561,50 @@ bases-put more part held gone room is = record {
     by-mark None own = tt
     by-mark (Some mark) own = mark-put more part held room mark own
 
-pub shows-put : (more part : List ℕ) (held : HeldView) (gone : List ℕ) (room : ℕ) → ShowsBases (part ++ more) held gone → ShowsBases more (put-behind held part room) gone
-shows-put more part held gone room is = record {
-  back = is.back;
-  base = there 0 (omega arith) ∙ (is.base ∙ ap (with_gone gone) here);
-  mark = by-mark held.mark is.mark;
-}
+pub sure-put : (part : List ℕ) (held : HeldView) (room : ℕ) → GaveSurely held → GaveSurely (put-behind held part room)
+sure-put part held room gave = λ more. ((gave (part ++ more)).0, by-bases more (gave (part ++ more)).0 (gave (part ++ more)).1)
   where
-    here : left_so_far held (part ++ more) ≡ left_so_far (put-behind held part room) more
-    here = ap (sure-over held held.known held.cr held.place) (sym (append_assoc held.bytes part more))
+    here : (more : List ℕ) → left_surely held (part ++ more) ≡ left_surely (put-behind held part room) more
+    here more = ap (sure-over held held.known held.cr held.place) (sym (append_assoc held.bytes part more))
 
-    there : (passed : ℕ) → passed ≤ length held.back → left_so_far (from_base (put-behind held part room) passed) more ≡ left_so_far (from_base held passed) (part ++ more)
-    there passed within = ap (sure-over held [] false (base_of held + passed)) (put-from held part more passed within)
+    there : (more : List ℕ) (passed : ℕ) → passed ≤ length held.back → left_surely (from_base (put-behind held part room) passed) more ≡ left_surely (from_base held passed) (part ++ more)
+    there more passed within = ap (sure-over held [] false (base_of held + passed)) (put-from held part more passed within)
 
-    by-mark : (mark : Option Mark) → IfSome mark (λ own. (own.passed ≤ length held.back) × MarkShows (part ++ more) held own) → IfSome mark (λ own. (own.passed ≤ length held.back) × MarkShows more (put-behind held part room) own)
-    by-mark None own = tt
-    by-mark (Some mark) own = (own.0, there mark.passed own.0 ∙ (own.1 ∙ ap (without mark.count) here))
+    by-mark : (more : List ℕ) (mark : Option Mark) → IfSome mark (SureMark (part ++ more) held) → IfSome mark (SureMark more (put-behind held part room))
+    by-mark more None own = tt
+    by-mark more (Some mark) own = record { passed = own.passed; left = there more mark.passed own.passed ∙ (own.left ∙ ap (without mark.count) (here more)) }
+
+    by-bases : (more gone : List ℕ) → SureBases (part ++ more) held gone → SureBases more (put-behind held part room) gone
+    by-bases more gone is = record {
+      back = is.back;
+      base = record { count = is.base.count; left = there more 0 (omega arith) ∙ (is.base.left ∙ ap (with_gone gone) (here more)) };
+      mark = by-mark more held.mark is.mark;
+    }
+
+-- What the bytes from the base on surely give.
+
+until-translated : (released : Bool) (newline : Newlines) (cs : List ℕ) → translated_to released newline cs ≡ read_until released newline false cs
+until-translated true newline cs = refl
+until-translated false newline cs = append-nil (read_so_far newline false cs)
+
+-- it has what was given since
+pub sure-told : (held : HeldView) → held.order ≡ Unknown → GaveSurely held → held.given ≤ length (surely_given held.encoding held.handler held.newline false (whole_of held))
+sure-told held unknown gave =
+    let gone : List ℕ = (gave []).0 in
+    let base = (gave []).1.base in
+    let bytes : List ℕ = whole_of held in
+    let there : ℕ = base_of held + 0 in
+    let walk : Order → ℕ → List ℕ → Walk = λ order place all. walk_at held.encoding (treatment held.handler held.encoding) false order place all in
+    let reads : (released : Bool) → List ℕ → List ℕ = λ released cs. translated_to released held.newline cs in
+    let gives : Walk → List ℕ = λ own. read_until (is_some (refusal_of own.ending)) held.newline false (characters_of own.items) in
+    let near : Walk = walk Unknown 0 bytes in
+    let far : Walk = walk Unknown there bytes in
+    let alike = alike_anywhere held.handler held.encoding false Unknown 0 there bytes in
+    let all : reads (is_some (refusal_of near.ending)) (characters_of near.items) ≡ gone ++ (left_surely held []).characters =
+    ap (λ (released : Bool). reads released (characters_of near.items)) alike.refused
+    ∙ (ap (reads (is_some (refusal_of far.ending))) alike.characters
+    ∙ (until-translated (is_some (refusal_of far.ending)) held.newline (characters_of far.items)
+    ∙ (ap (λ (order : Order). gives (walk order there bytes)) (sym unknown)
+    ∙ (ap (λ (xs : List ℕ). gives (walk held.order there xs)) (sym (append-nil bytes))
+    ∙ ap (λ (rest : Rest). rest.characters) base.left)))) in
+    omega (arith, base.count, ap length all, length-append gone (left_surely held []).characters)

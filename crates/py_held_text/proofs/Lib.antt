@@ -11,3 +11,4 @@ pub mod Shifting
 pub mod Marking
 pub mod Backing
 pub mod Bases
+pub mod Keeping

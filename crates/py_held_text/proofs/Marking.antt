@@ -1,5 +1,5 @@
 -- The mark that stands once more was decoded: the one that there was, or a new one.
-use Rattle.std.proofs.Common.{◌≡◌, Bool, true, false, ◌||◌, Option, Some, None, IfSome, refl, if◌then◌else◌}
+use Rattle.std.proofs.Common.{◌≡◌, ℕ, zero, suc, ◌≤◌, Bool, true, false, true≢false, ◌||◌, nat_eq, Option, Some, IfSome, refl, if◌then◌else◌, arith}
 use Rattle.py_held_text.specs.declared.base.Mark.{Mark}
 
 -- what holds of the one and of the other holds of it
@@ -11,3 +11,9 @@ either-mark Holds false mark new old fresh = fresh refl
 pub no-cr : (cr none next : Bool) → ((cr || none) || next) ≡ false → cr ≡ false
 no-cr true none next sets = sets
 no-cr false none next sets = refl
+
+-- nor was it set at the base
+pub not-base : (cr : Bool) (back : ℕ) (next : Bool) → ((cr || nat_eq back 0) || next) ≡ false → 1 ≤ back
+not-base true back next sets = absurd (true≢false sets)
+not-base false zero next sets = absurd (true≢false sets)
+not-base false (suc back) next sets = omega arith

@@ -2,12 +2,12 @@
 use Rattle.std.specs.Prelude.{◌≡◌, ℕ, ◌+◌, ◌≤◌, false, List, [], ◌++◌, length, drop, None, IfSome}
 use Rattle.py_plain_text.specs.Rest.{Rest}
 use Rattle.py_held_text.specs.declared.base.Mark.{Mark}
-use Rattle.py_held_text.specs.Held.{HeldView, base_of, whole_of, left_with, left_so_far}
+use Rattle.py_held_text.specs.Held.{HeldView, base_of, whole_of, left_with, left_surely}
 use Rattle.py_held_text.specs.Decodes.{Passes}
 
 -- nothing is known from a place on, so many bytes behind the base, and the bytes in hand from there on are to be decoded
 abbrev pub from_base : HeldView → (passed : ℕ) → HeldView
-from_base held passed = record held { known = []; cr = false; back = []; given = 0; mark = None; bytes = drop passed (whole_of held); place = base_of held + passed }
+from_base held passed = record held { known = []; cr = false; back = []; given = 0; mark = None; ended = false; bytes = drop passed (whole_of held); place = base_of held + passed }
 
 -- nothing is known from the base on
 abbrev pub rebased : HeldView → HeldView
@@ -51,16 +51,24 @@ pub record KnowsBases (more : List ℕ) (held : HeldView) (gone : List ℕ) : Ty
   pub mark : KnowsMark more held
 
 -- the same of what is surely left while more may come
-abbrev pub ShowsBase : (more : List ℕ) → HeldView → List ℕ → Type 0
-ShowsBase more held gone = left_so_far (rebased held) more ≡ with_gone gone (left_so_far held more)
+pub record SureBase (more : List ℕ) (held : HeldView) (gone : List ℕ) : Type 0 where
+  pub count : length gone ≡ held.given
+  pub left : left_surely (rebased held) more ≡ with_gone gone (left_surely held more)
 
-abbrev pub MarkShows : (more : List ℕ) → HeldView → Mark → Type 0
-MarkShows more held mark = left_so_far (from_base held mark.passed) more ≡ without mark.count (left_so_far held more)
+pub record SureMark (more : List ℕ) (held : HeldView) (mark : Mark) : Type 0 where
+  pub passed : mark.passed ≤ length held.back
+  pub left : left_surely (from_base held mark.passed) more ≡ without mark.count (left_surely held more)
 
-abbrev pub ShowsMark : (more : List ℕ) → HeldView → Type 0
-ShowsMark more held = IfSome held.mark (λ mark. (mark.passed ≤ length held.back) × MarkShows more held mark)
-
-pub record ShowsBases (more : List ℕ) (held : HeldView) (gone : List ℕ) : Type 0 where
+pub record SureBases (more : List ℕ) (held : HeldView) (gone : List ℕ) : Type 0 where
   pub back : IsBack held
-  pub base : ShowsBase more held gone
-  pub mark : ShowsMark more held
+  pub base : SureBase more held gone
+  pub mark : IfSome held.mark (SureMark more held)
+
+-- whatever comes behind what is in hand: the bytes from the base on surely give the characters that were given since, and then what is
+-- surely left
+abbrev pub GaveSurely : HeldView → Type 0
+GaveSurely held = (more : List ℕ) → (gone : List ℕ) × SureBases more held gone
+
+-- so it is as long as no decoding knew that no bytes come behind those in hand
+abbrev pub KeepsSure : HeldView → Type 0
+KeepsSure held = held.ended ≡ false → GaveSurely held

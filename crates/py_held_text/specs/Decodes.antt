@@ -1,5 +1,5 @@
 -- What a decoding of the bytes in hand changes, and why it goes no further.
-use Rattle.std.specs.Prelude.{◌≡◌, ℕ, ◌+◌, ◌*◌, ◌^◌, ◌<◌, ◌≤◌, Bool, true, false, List, [], ◌++◌, length, take, drop, Option, Some, None, Result, Ok, Err, if◌then◌else◌}
+use Rattle.std.specs.Prelude.{◌≡◌, ℕ, ◌+◌, ◌*◌, ◌^◌, ◌<◌, ◌≤◌, Bool, true, false, ◌||◌, List, [], ◌++◌, length, take, drop, Option, Some, None, Result, Ok, Err, if◌then◌else◌}
 use Rattle.py_flat.specs.declared.fault.IoFault.{IoFault}
 use Rattle.py_flat.specs.declared.fault.IoFault.TheVariants.{NoMemory}
 use Rattle.py_plain.specs.Items.{Item, AtRange, ends, refusal_of}
@@ -24,7 +24,8 @@ Passes before behind more = (items : List Item) × (ahead before true more ≡ i
 
 -- Some bytes in hand were used, and what is known has grown by what they gave: at most six characters for each of them. What is left
 -- stays, whatever bytes come behind those in hand, none where these are the last; the place behind the bytes that were used is a boundary
--- between items. The base stays, and those bytes stand behind it; a mark is set where there was none
+-- between items. The base stays, and those bytes stand behind it; a mark is set where there was none. A decoding of the last bytes is
+-- remembered
 pub record Decodes (last : Bool) (old new : HeldView) : Type 0 where
   pub settings : KeepsSettings old new
   pub used : ℕ
@@ -37,6 +38,7 @@ pub record Decodes (last : Bool) (old new : HeldView) : Type 0 where
   pub whole : whole_of new ≡ whole_of old
   pub given : new.given ≡ old.given
   pub mark : new.mark ≡ mark_by old.mark old.cr (length old.known) (length old.back)
+  pub ended : new.ended ≡ (last || old.ended)
   pub grows : (more : List ℕ) × (new.known ≡ old.known ++ more)
   pub few : known_with_cr new ≤ known_with_cr old + 6 * used
   pub left : (more : List ℕ) → (last ≡ true → more ≡ []) → left_with new more ≡ left_with old more
@@ -53,6 +55,10 @@ pub record IsDrained (last : Bool) (held : HeldView) : Type 0 where
 pub record RefusesNext (last : Bool) (held : HeldView) (start end : ℕ) : Type 0 where
   pub whole : (more : List ℕ) → (last ≡ true → more ≡ []) → ahead held true more ≡ ends held.order (AtRange start end)
   pub so_far : last ≡ false → (more : List ℕ) → ahead held false more ≡ ends held.order (AtRange start end)
+
+-- a range that the handler refuses comes next, whatever bytes come behind those in hand
+abbrev pub IsStopped : HeldView → Type 0
+IsStopped held = (range : ℕ × ℕ) × RefusesNext false held range.0 range.1
 
 -- why the bytes in hand give no more
 abbrev pub StoppedAt : (last : Bool) → HeldView → HeldStop → Type 0

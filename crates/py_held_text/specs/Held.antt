@@ -1,5 +1,5 @@
 -- What a text stream has in hand: characters that it knows, and bytes that it took and hasn't decoded yet.
-use Rattle.std.specs.Prelude.{ℕ, ◌+◌, ◌-◌, ◌*◌, ◌≤◌, nat_eq, nat_lt, Bool, true, false, ◌||◌, List, [], ◌++◌, length, take, drop, Option, Some, None, IfSome, if◌then◌else◌}
+use Rattle.std.specs.Prelude.{ℕ, ◌+◌, ◌-◌, ◌*◌, ◌≤◌, nat_eq, nat_lt, Bool, true, false, ◌||◌, List, [], ◌++◌, length, take, drop, Option, Some, None, IfSome, is_some, if◌then◌else◌}
 use Rattle.py_flat.specs.Limits.{greatest_place}
 use Rattle.py_plain.specs.declared.encoding.Encoding.{Encoding}
 use Rattle.py_plain.specs.declared.handler.Handler.{Handler}
@@ -13,11 +13,12 @@ use Rattle.py_plain_text.specs.Rest.{Rest}
 use Rattle.py_text.specs.declared.coder.Coder.{Coder}
 use Rattle.py_held_text.specs.declared.base.Mark.{Mark}
 use Rattle.py_held_text.specs.declared.base.BaseMove.{BaseMove}
+use Rattle.py_held_text.specs.Known.{KnownView}
 
 -- how the bytes are read; the characters that are known and not given; whether a CR is held behind them, which the next
 -- character releases; the bytes that were decoded since the base, a boundary between items, how many characters were given since, and a
--- later base that is to come; the bytes behind them that aren't decoded, the place of the first of those in the stream, and the order
--- that they are read in; and for how many bytes more there is room
+-- later base that is to come; whether a decoding knew that no bytes come behind those in hand; the bytes behind them that aren't decoded,
+-- the place of the first of those in the stream, and the order that they are read in; and for how many bytes more there is room
 pub record HeldView : Type 0 where
   pub encoding : Encoding
   pub handler : Handler
@@ -27,24 +28,29 @@ pub record HeldView : Type 0 where
   pub back : List ℕ
   pub given : ℕ
   pub mark : Option Mark
+  pub ended : Bool
   pub bytes : List ℕ
   pub place : ℕ
   pub order : Order
   pub room : ℕ
 
--- nothing is in hand, at a place of the stream
-abbrev pub nothing_held : Coder → Newlines → (place room : ℕ) → HeldView
-nothing_held coder newline place room = record { encoding = coder.encoding; handler = coder.errors; newline = newline; known = []; cr = false; back = []; given = 0; mark = None; bytes = []; place = place; order = Unknown; room = room }
-
--- nothing is in hand any more, at another place of the stream
-abbrev pub cleared : HeldView → (place room : ℕ) → HeldView
-cleared held place room = record held { known = []; cr = false; back = []; given = 0; mark = None; bytes = []; place = place; order = Unknown; room = room }
-
--- The base.
-
 -- of some bytes those that are decoded, but for the first few, which stand before the base
 abbrev pub back_of : (gone decoded : ℕ) → List ℕ → List ℕ
 back_of gone decoded bytes = take (decoded - gone) (drop gone bytes)
+
+-- what is in hand, by its parts: of some bytes the first n are decoded, and of these the first few stand before the base
+abbrev pub view_of : Coder → KnownView → (gone decoded : ℕ) → List ℕ → (given : ℕ) → Option Mark → (ended : Bool) → (place room : ℕ) → HeldView
+view_of coder known gone decoded bytes given mark ended place room = record { encoding = coder.encoding; handler = coder.errors; newline = known.newline; known = known.characters; cr = known.cr; back = back_of gone decoded bytes; given = given; mark = mark; ended = ended; bytes = drop decoded bytes; place = place; order = Unknown; room = room }
+
+-- nothing is in hand, at a place of the stream
+abbrev pub nothing_held : Coder → Newlines → (place room : ℕ) → HeldView
+nothing_held coder newline place room = record { encoding = coder.encoding; handler = coder.errors; newline = newline; known = []; cr = false; back = []; given = 0; mark = None; ended = false; bytes = []; place = place; order = Unknown; room = room }
+
+-- nothing is in hand any more, at another place of the stream
+abbrev pub cleared : HeldView → (place room : ℕ) → HeldView
+cleared held place room = record held { known = []; cr = false; back = []; given = 0; mark = None; ended = false; bytes = []; place = place; order = Unknown; room = room }
+
+-- The base.
 
 -- all bytes from the base on
 abbrev pub whole_of : HeldView → List ℕ
@@ -56,7 +62,7 @@ base_of held = held.place - length held.back
 
 -- all bytes from the base on are in hand again and none is decoded, to be read by other settings
 abbrev pub held_anew : Coder → Newlines → HeldView → HeldView
-held_anew coder newline held = record { encoding = coder.encoding; handler = coder.errors; newline = newline; known = []; cr = false; back = []; given = 0; mark = None; bytes = whole_of held; place = base_of held; order = Unknown; room = held.room }
+held_anew coder newline held = record { encoding = coder.encoding; handler = coder.errors; newline = newline; known = []; cr = false; back = []; given = 0; mark = None; ended = false; bytes = whole_of held; place = base_of held; order = Unknown; room = held.room }
 
 -- whether the next character stands behind a mark
 abbrev pub comes_next : Option Mark → Bool
@@ -81,10 +87,11 @@ given_on count held =
     let base : BaseMove = base_behind count held.given held.mark in
     record held { known = drop count held.known; back = drop base.passed held.back; given = base.given; mark = base.mark }
 
--- a mark stands among the known characters and the bytes that were decoded since the base, and behind it stand at most six characters for
--- each of those bytes
+-- a mark stands among the known characters and the bytes that were decoded since the base, never at the base, and behind it stand at most
+-- six characters for each of those bytes
 pub record IsMark (known back : ℕ) (cr : Bool) (mark : Mark) : Type 0 where
   pub count : mark.count ≤ known
+  pub some : 1 ≤ mark.passed
   pub passed : mark.passed ≤ back
   pub few : known + (if cr then 1 else 0) + 6 * mark.passed ≤ mark.count + 6 * back
 
@@ -115,5 +122,17 @@ left_with held more = record {
 abbrev pub left_so_far : HeldView → List ℕ → Rest
 left_so_far held more = record {
   characters = held.known ++ read_so_far held.newline held.cr (characters_of (ahead held false more).items);
+  refusal = refusal_of (ahead held false more).ending;
+}
+
+-- what a rule gives behind a held CR, if one is held; `released` says that one that is held then is given as an LF
+abbrev pub read_until : (released : Bool) → Newlines → (cr : Bool) → List ℕ → List ℕ
+read_until true newline cr cs = read_all newline cr cs
+read_until false newline cr cs = read_so_far newline cr cs
+
+-- what is surely left while more may come, with the CR that a refused range comes right behind
+abbrev pub left_surely : HeldView → List ℕ → Rest
+left_surely held more = record {
+  characters = held.known ++ read_until (is_some (refusal_of (ahead held false more).ending)) held.newline held.cr (characters_of (ahead held false more).items);
   refusal = refusal_of (ahead held false more).ending;
 }

@@ -1,5 +1,7 @@
-ghost use Rattle.std.specs.Prelude.{◌≡◌, ◌+◌, ◌^◌, ◌<◌};
+ghost use Rattle.std.specs.Prelude.{◌≡◌, ◌+◌, ◌^◌, ◌<◌, ◌≤◌, false};
 ghost use Rattle.py_held_text.specs.Held.{comes_next, mark_by, base_behind};
+
+use py_telling::Walked;
 
 /// A place behind the base, between two items, which is the base once a character behind it was given.
 #[derive(Clone, Copy, Debug, PartialEq, Eq)]
@@ -72,5 +74,17 @@ pub(crate) fn base_behind(count: usize, given: u128, mark: Option<Mark>) -> Base
             given: given + count as u128,
             mark: None,
         },
+    }
+}
+
+/// How far the bytes from the base on were walked, once it moved on by so many bytes: where it stays, as far as before.
+pub(crate) fn walked_from(passed: usize, walked: Walked) -> Walked
+    ensures same { passed ≡ 0 → result ≡ walked }
+    ensures none { 1 ≤ passed → result ≡ record { passed = 0; count = 0; held = false } }
+{
+    if passed == 0 {
+        walked
+    } else {
+        Walked::default()
     }
 }

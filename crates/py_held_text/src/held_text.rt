@@ -1,21 +1,21 @@
-ghost use Rattle.std.specs.Prelude.{◌≡◌, ◌++◌, ◌+◌, ◌-◌, ◌≤◌, true, false, [], length, take, drop, vec_len, vec_capacity, option_map, IfErr, IfSome, OnOk, OnErr};
+ghost use Rattle.std.specs.Prelude.{◌≡◌, ◌++◌, ◌+◌, ◌-◌, ◌≤◌, ◌||◌, true, false, [], length, take, drop, vec_len, vec_capacity, option_map, IfErr, IfSome, OnOk, OnErr};
 ghost use Rattle.py_flat.specs.Limits.{greatest_place};
-ghost use Rattle.py_plain.specs.Units.{Unknown};
 ghost use Rattle.py_plain.specs.Handlers.{reads_texts};
 ghost use Rattle.py_plain.specs.NewlineRule.{read_all};
+ghost use Rattle.py_telling.specs.InHand.{surely_given};
 ghost use Rattle.py_telling.specs.ToldView.{IsTold, IsToldAmong};
 ghost use Rattle.py_held_text.specs.Held.{nothing_held, cleared, base_of, whole_of, held_anew};
-ghost use Rattle.py_held_text.specs.Decodes.{DecodeOutcome, DecodeLastOutcome, PartOutcome};
+ghost use Rattle.py_held_text.specs.Decodes.{DecodeOutcome, DecodeLastOutcome, IsStopped, PartOutcome};
 ghost use Rattle.py_held_text.specs.Finding.{IsFrontOf, answer_of, enough, enough_before, GiveOutcome};
 
-use crate::base::{base_behind, next_mark};
+use crate::base::{base_behind, next_mark, walked_from};
 use crate::known_text::KnownText;
 use crate::reach::reach;
 use crate::{HeldStop, Mark, Wanted};
 use py_blocks::TextFront;
 use py_codec::{FrontStop, IoFault};
 use py_plain::Newlines;
-use py_telling::{Told, told_among};
+use py_telling::{Told, Walked, told_among};
 use py_text::Coder;
 use std::alloc::Global;
 use std::fmt;
@@ -29,9 +29,11 @@ use std::marker::Model;
 ///
 /// Contracts see the settings, the known characters, whether a CR is held behind them (under the universal rule, until
 /// the next character releases it), the bytes that were decoded since the base, the characters that were given since, the
-/// next base, the bytes that aren't decoded with their place in the stream and the order that they are read in, and the
-/// room for more. Whatever bytes come behind those in hand, the text that is left stays: decoding moves it from bytes to
-/// characters, and only `give`, `clear` and `read_anew` change it.
+/// next base, whether a decoding knew that no bytes come behind those in hand, the bytes that aren't decoded with their
+/// place in the stream and the order that they are read in, and the room for more. Whatever bytes come behind those in
+/// hand, the text that is left stays: decoding moves it from bytes to characters, and only `give`, `clear` and `read_anew`
+/// change it. As long as no decoding knew that none come, the bytes since the base surely give the characters that were
+/// given since.
 #[derive(Drop)]
 pub struct HeldText {
     coder: Coder,
@@ -44,33 +46,25 @@ pub struct HeldText {
     /// How many characters were given since the base.
     given: u128,
     mark: Option<Mark>,
+    /// Whether a decoding knew that no bytes come behind those in hand.
+    ended: bool,
     place: u64,
+    /// How far the bytes from the base on were walked to tell where the text stands.
+    walked: Walked,
 }
 
 impl Model for HeldText {
     ghost use Rattle.std.specs.Prelude.{◌≡◌, ◌-◌, true, length, drop, vec_len, vec_capacity};
-    ghost use Rattle.py_plain.specs.Units.{Unknown};
     ghost use Rattle.py_plain.specs.Handlers.{reads_texts};
-    ghost use Rattle.py_held_text.specs.Held.{HeldView, back_of, IsHeld};
+    ghost use Rattle.py_telling.specs.Walks.{IsWalked};
+    ghost use Rattle.py_held_text.specs.Held.{HeldView, view_of, IsHeld};
+    ghost use Rattle.py_held_text.specs.Bases.{KeepsSure};
 
     ghost Value = { HeldView };
 
-    ghost view = { λ h. record {
-      encoding = h.coder.encoding;
-      handler = h.coder.errors;
-      newline = h.known.newline;
-      known = h.known.characters;
-      cr = h.known.cr;
-      back = back_of h.gone h.decoded h.bytes.items;
-      given = h.given;
-      mark = h.mark;
-      bytes = drop h.decoded h.bytes.items;
-      place = h.place;
-      order = Unknown;
-      room = vec_capacity h.bytes - vec_len h.bytes;
-    } };
+    ghost view = { λ h. view_of h.coder h.known h.gone h.decoded h.bytes.items h.given h.mark h.ended h.place (vec_capacity h.bytes - vec_len h.bytes) };
 
-    ghost invariant = { λ h. (reads_texts h.coder.errors ≡ true) × IsHeld (vec_len h.bytes) h.gone h.decoded h.place (length h.known.characters) h.given h.known.cr h.mark };
+    ghost invariant = { λ h. ((reads_texts h.coder.errors ≡ true) × KeepsSure (view_of h.coder h.known h.gone h.decoded h.bytes.items h.given h.mark h.ended h.place 0) × IsWalked h.coder.encoding h.coder.errors h.known.newline (drop h.gone h.bytes.items) h.given h.walked) × IsHeld (vec_len h.bytes) h.gone h.decoded h.place (length h.known.characters) h.given h.known.cr h.mark };
 }
 
 // Only how much is in hand, and not what: thousands of characters would hide all else.
@@ -119,6 +113,13 @@ fn trim(bytes: &mut Vec<u8>)
     }
 }
 
+/// Whether a decoding knows that no bytes come behind those in hand, or one before it did.
+fn is_ended(last: bool, before: bool) -> bool
+    ensures { result ≡ (last || before) }
+{
+    last || before
+}
+
 impl HeldText {
     /// Nothing in hand, at a byte place of the stream. The handler of the coder is one of those that texts are read with.
     /// It takes no memory.
@@ -135,7 +136,9 @@ impl HeldText {
             decoded: 0,
             given: 0,
             mark: None,
+            ended: false,
             place,
+            walked: Walked::default(),
         }
     }
 
@@ -292,6 +295,7 @@ impl HeldText {
             self.known.len(),
             self.decoded - self.gone,
         );
+        let ended = is_ended(last, self.ended);
         let bytes = behind(&self.bytes, self.decoded);
         let is_all = size == bytes.len();
         let front = self
@@ -299,6 +303,7 @@ impl HeldText {
             .decode(alloc, self.coder, &bytes[..size], want, last)?;
         let from = self.place;
         self.mark = mark;
+        self.ended = ended;
         self.decoded += front.used;
         self.place += front.used as u64;
         match front.stop {
@@ -321,6 +326,7 @@ impl HeldText {
     ///
     /// `NoMemory` when out of memory, and all is as before.
     pub fn release(&mut self) -> Result<(), IoFault>
+        requires stops { self.old.ended ≡ false → IsStopped self.old }
         ensures released { OnOk result (self.new ≡ record self.old { known = self.old.known ++ read_all self.old.newline self.old.cr []; cr = false }) }
         ensures memory { IfErr result (λ why. why ≡ IoFault.NoMemory) }
         ensures same { OnErr result (self.new ≡ self.old) }
@@ -369,28 +375,37 @@ impl HeldText {
         self.gone += base.passed;
         self.given = base.given;
         self.mark = base.mark;
+        self.walked = walked_from(base.passed, self.walked);
         self.shrink();
         Ok(text)
     }
 
-    /// Where the text stands, by the bytes from the base on; `last` says that none come behind those in hand. It is what the text tells
-    /// where these bytes surely give as many characters as were given since the base, whatever comes behind them. Each of them is read
-    /// once, or twice.
-    pub fn tell(&self, last: bool) -> Told
-        ensures told { IsToldAmong self.now.encoding self.now.handler self.now.newline last (base_of self.now) self.now.given (whole_of self.now) result }
+    /// Where the text stands, by the bytes from the base on. Where a decoding knew that none come behind those in hand, it is what the text
+    /// tells where none do; else it is that, whatever comes behind them, since these bytes surely give as many characters as were given since
+    /// the base. Each of them is read once, or twice, and those that an earlier call read aren't read again: it goes on from where that one
+    /// came to. It takes no memory.
+    pub fn tell(&mut self) -> Told
+        ensures told { IsToldAmong self.old.encoding self.old.handler self.old.newline self.old.ended (base_of self.old) self.old.given (whole_of self.old) result }
+        ensures sure { self.old.ended ≡ false → self.old.given ≤ length (surely_given self.old.encoding self.old.handler self.old.newline false (whole_of self.old)) }
+        ensures forth { base_of self.old ≤ result.start }
+        ensures fits { result.start + result.length ≤ self.old.place + length self.old.bytes }
         ensures within { IsTold result }
+        ensures same { self.new ≡ self.old }
     {
         let bytes = behind(&self.bytes, self.gone);
         let base = self.place - (self.decoded - self.gone) as u64;
-        told_among(
+        let (told, walked) = told_among(
             self.coder.encoding,
             self.coder.errors,
             self.known.newline(),
             bytes,
             base,
             self.given,
-            last,
-        )
+            self.walked,
+            self.ended,
+        );
+        self.walked = walked;
+        told
     }
 
     /// Has all bytes from the base on in hand again, also those that were decoded, to read them by other settings: nothing is
@@ -406,6 +421,8 @@ impl HeldText {
         self.decoded = self.gone;
         self.given = 0;
         self.mark = None;
+        self.ended = false;
+        self.walked = Walked::default();
     }
 
     /// Lets go of all that is in hand, and stands at another byte place of the stream.
@@ -420,6 +437,8 @@ impl HeldText {
         self.decoded = 0;
         self.given = 0;
         self.mark = None;
+        self.ended = false;
+        self.walked = Walked::default();
         self.place = place;
     }
 }

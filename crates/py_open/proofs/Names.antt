@@ -31,20 +31,21 @@ handler_spelled handler.SurrogatePass = refl
 handler_spelled handler.SurrogateEscape = refl
 
 -- a call that is none of those that a text has is of another kind
-pub other_kind : (made : Call) → ((size : Option ℕ) → made ≡ call.Read size → ⊥) → ((limit : Option ℕ) → made ≡ call.ReadLine limit → ⊥) → ((written : List ℕ) → made ≡ call.WriteText written → ⊥) → ((size : ℕ) → made ≡ call.SetChunkSize size → ⊥) → (made ≡ call.Flush → ⊥) → (made ≡ call.Close → ⊥) → (made ≡ call.ChunkSize → ⊥) → (made ≡ call.Readable → ⊥) → (made ≡ call.Writable → ⊥) → (made ≡ call.Seekable → ⊥) → (made ≡ call.Closed → ⊥) → (made ≡ call.Encoding → ⊥) → (made ≡ call.Errors → ⊥) → ((changes : Reconfigure) → made ≡ call.Reconfigure changes → ⊥) → (made ≡ call.Detach → ⊥) → text_call made ≡ text.OtherKind
-other_kind (call.Read size) a b c d e f g h i j k l m n o = absurd (a size refl)
-other_kind (call.ReadLine limit) a b c d e f g h i j k l m n o = absurd (b limit refl)
-other_kind (call.WriteText written) a b c d e f g h i j k l m n o = absurd (c written refl)
-other_kind (call.SetChunkSize size) a b c d e f g h i j k l m n o = absurd (d size refl)
-other_kind call.Flush a b c d e f g h i j k l m n o = absurd (e refl)
-other_kind call.Close a b c d e f g h i j k l m n o = absurd (f refl)
-other_kind call.ChunkSize a b c d e f g h i j k l m n o = absurd (g refl)
-other_kind call.Readable a b c d e f g h i j k l m n o = absurd (h refl)
-other_kind call.Writable a b c d e f g h i j k l m n o = absurd (i refl)
-other_kind call.Seekable a b c d e f g h i j k l m n o = absurd (j refl)
-other_kind call.Closed a b c d e f g h i j k l m n o = absurd (k refl)
-other_kind call.Encoding a b c d e f g h i j k l m n o = absurd (l refl)
-other_kind call.Errors a b c d e f g h i j k l m n o = absurd (m refl)
-other_kind (call.Reconfigure changes) a b c d e f g h i j k l m n o = absurd (n changes refl)
-other_kind call.Detach a b c d e f g h i j k l m n o = absurd (o refl)
-other_kind made a b c d e f g h i j k l m n o = refl
+pub other_kind : (made : Call) → ((size : Option ℕ) → made ≡ call.Read size → ⊥) → ((limit : Option ℕ) → made ≡ call.ReadLine limit → ⊥) → ((written : List ℕ) → made ≡ call.WriteText written → ⊥) → ((size : ℕ) → made ≡ call.SetChunkSize size → ⊥) → (made ≡ call.Flush → ⊥) → (made ≡ call.Close → ⊥) → (made ≡ call.ChunkSize → ⊥) → (made ≡ call.Readable → ⊥) → (made ≡ call.Writable → ⊥) → (made ≡ call.Seekable → ⊥) → (made ≡ call.Closed → ⊥) → (made ≡ call.Encoding → ⊥) → (made ≡ call.Errors → ⊥) → ((changes : Reconfigure) → made ≡ call.Reconfigure changes → ⊥) → (made ≡ call.Detach → ⊥) → (made ≡ call.Tell → ⊥) → text_call made ≡ text.OtherKind
+other_kind (call.Read size) a b c d e f g h i j k l m n o p = absurd (a size refl)
+other_kind (call.ReadLine limit) a b c d e f g h i j k l m n o p = absurd (b limit refl)
+other_kind (call.WriteText written) a b c d e f g h i j k l m n o p = absurd (c written refl)
+other_kind (call.SetChunkSize size) a b c d e f g h i j k l m n o p = absurd (d size refl)
+other_kind call.Flush a b c d e f g h i j k l m n o p = absurd (e refl)
+other_kind call.Close a b c d e f g h i j k l m n o p = absurd (f refl)
+other_kind call.ChunkSize a b c d e f g h i j k l m n o p = absurd (g refl)
+other_kind call.Readable a b c d e f g h i j k l m n o p = absurd (h refl)
+other_kind call.Writable a b c d e f g h i j k l m n o p = absurd (i refl)
+other_kind call.Seekable a b c d e f g h i j k l m n o p = absurd (j refl)
+other_kind call.Closed a b c d e f g h i j k l m n o p = absurd (k refl)
+other_kind call.Encoding a b c d e f g h i j k l m n o p = absurd (l refl)
+other_kind call.Errors a b c d e f g h i j k l m n o p = absurd (m refl)
+other_kind (call.Reconfigure changes) a b c d e f g h i j k l m n o p = absurd (n changes refl)
+other_kind call.Detach a b c d e f g h i j k l m n o p = absurd (o refl)
+other_kind call.Tell a b c d e f g h i j k l m n o p = absurd (p refl)
+other_kind made a b c d e f g h i j k l m n o p = refl

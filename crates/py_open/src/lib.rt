@@ -25,7 +25,7 @@ pub use laws::{
 pub use open_failed::OpenFailed;
 pub use open_refused::OpenRefused;
 pub use paths::{io_open, open_code};
-pub use py_calls::{Call, Reconfigure, Reply};
+pub use py_calls::{Call, Reconfigure, Reply, TextIOCookie};
 pub use py_flat::ParseModeError;
 pub use py_mode::{
     DEFAULT_BUFFER_SIZE, EncodeMode, FileMode, Mode, OpenArgs, OpenPlan, PlanKind, TextPlan,

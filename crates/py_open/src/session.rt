@@ -87,10 +87,10 @@ impl<R: RawStream> Session<R> {
 
     /// Makes one call.
     ///
-    /// A text has `Read`, `ReadLine`, `WriteText`, as far as it reads and writes, `SetChunkSize`, `Reconfigure`, `Flush`, `Close` and `Detach`; a
-    /// stream of bytes all but the calls of texts, as far as it reads, writes and can be moved, and without a buffer no `Read1`, `ReadInto1`, `Peek` and
-    /// `Detach`. The four questions `Readable`, `Writable`, `Seekable` and `Closed` are answered by a `Flag` in every life, and so are a
-    /// text's `ChunkSize` by a `Count` of bytes, `Encoding` and `Errors` by a `Name`, or `NoMemory` for that.
+    /// A text has `Read`, `ReadLine`, `WriteText`, as far as it reads and writes, `Tell`, as far as it can be moved, `SetChunkSize`, `Reconfigure`,
+    /// `Flush`, `Close` and `Detach`; a stream of bytes all but the calls of texts, as far as it reads, writes and can be moved, and without a
+    /// buffer no `Read1`, `ReadInto1`, `Peek` and `Detach`. The four questions `Readable`, `Writable`, `Seekable` and `Closed` are answered by a
+    /// `Flag` in every life, and so are a text's `ChunkSize` by a `Count` of bytes, `Encoding` and `Errors` by a `Name`, or `NoMemory` for that.
     ///
     /// - Readings answer bytes, lines or characters, as many as asked for, or all that are left; fewer come only at the end.
     ///   `Read1`, `ReadInto1`, `Peek` and, without a buffer, `Read` of a size and `ReadInto` answer what one transfer of the raw gives,
@@ -100,7 +100,8 @@ impl<R: RawStream> Session<R> {
     /// - `Write` answers how many bytes were taken: all, or without a buffer those of one transfer; `WriteLines` is `Done`. `WriteText`
     ///   answers how many characters the text has: it is written whole, by the text's newline rule, or not at all. With line buffering a text
     ///   that has LF or CR is passed on at once.
-    /// - `SetChunkSize` and `Reconfigure` are `Done`. `Seek` and `Tell` answer the place, `Truncate` the size, `Flush` and `Close` `Done`. `Detach` answers what is unwritten, and its place; the
+    /// - `SetChunkSize` and `Reconfigure` are `Done`. `Seek` and `Tell` answer the place, a text's `Tell` a `Cookie` of it, which calls no raw, takes no
+    ///   memory and leaves all as it was; `Truncate` the size, `Flush` and `Close` `Done`. `Detach` answers what is unwritten, and its place; the
     ///   raw stays with the session, and every call is `Detached` from then on, but the questions.
     ///
     /// A write without a buffer whose raw would have blocked is `NotReady`, with nothing taken. Else a call is `Refused`:

@@ -4,11 +4,12 @@ ghost use Rattle.py_flat.specs.Calls.{Name};
 ghost use Rattle.py_plain_text.specs.TextCalls.{is_getter};
 ghost use Rattle.py_calls.specs.Calls.{text_call, said};
 ghost use Rattle.py_stream.specs.Replies.{count_reply, done_reply};
+ghost use Rattle.py_read_text.specs.Answers.{cookie_reply};
 ghost use Rattle.py_text_session.specs.Answers as seen;
 ghost use Rattle.py_text_session.specs.Handing.{unwritten_reply};
 ghost use Rattle.py_open.specs.Session.{SaysOrStarves, AnswersTextBy, AnswersText};
 
-use py_calls::{Call, Reply};
+use py_calls::{Call, Reply, TextIOCookie};
 use py_flat::{Chars, IoFault};
 use py_raw::{Data, RawStream};
 use py_text_session::{TextSession, TextUnwritten};
@@ -35,6 +36,7 @@ fn made<R: RawStream>(alloc: Global, text: &mut TextSession<R>, call: &Call) -> 
         Call::Read(size) => text_reply(text.read(alloc, *size)),
         Call::ReadLine(limit) => text_reply(text.readline(alloc, *limit)),
         Call::WriteText(written) => count_reply(text.write(alloc, written.as_str())),
+        Call::Tell => cookie_reply(text.tell()),
         Call::SetChunkSize(size) => done_reply(text.set_chunksize(*size)),
         Call::Reconfigure(changes) => done_reply(text.reconfigure(*changes)),
         Call::Flush => done_reply(text.flush()),
@@ -108,6 +110,16 @@ fn count_reply(answer: Result<usize, IoFault>) -> Reply
 {
     match answer {
         Ok(count) => Reply::Count(count as u64),
+        Err(fault) => Reply::Refused(fault),
+    }
+}
+
+/// The reply of a tell.
+fn cookie_reply(answer: Result<TextIOCookie, IoFault>) -> Reply
+    ensures { said result ≡ cookie_reply answer }
+{
+    match answer {
+        Ok(cookie) => Reply::Cookie(cookie),
         Err(fault) => Reply::Refused(fault),
     }
 }

@@ -51,6 +51,7 @@ text_begun buffer coder reading settings place asks buffered kept owes is far sa
   stands = omega (arith, is);
   far = omega (arith, is, far);
   forth = omega arith;
+  from = omega arith;
   few = omega arith;
   whole = λ zero. omega (arith, is);
   told = λ told live reads. subst (λ (own : ℕ). KnowsTold (settings_of coder settings) (flat_of buffer).bytes own place 0 (nothing_held reading settings.newline place 0)) is

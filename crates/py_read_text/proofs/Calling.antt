@@ -184,6 +184,7 @@ flush_so old after result live is answers =
       moves = record { settings = refl; life_is = flush_life (size_shown old.buffer.buffering) old.buffer.can.writable result old.buffer.life after.life answers.moves.life_is; place = refl; written = tt };
       lines = tt;
       blames = tt;
+      tells = tt;
       joined = joined_of (with_buffer old after) (text_flushed old.buffer after old.held old.at old.taken old.settings result live answers is);
       owes = owes_none (over_of old) Flush (over_of (with_buffer old after)) tt (passes_behind old.buffer.raw after.raw old.buffer.owed.bytes after.owed.bytes [] (front_passes old.buffer after answers.owes));
       lays = λ told. lays_owed (over_of old) [] after.raw.bytes (joined_of old is) (lays_alone old.buffer after is.owes answers.lays told);
@@ -318,6 +319,7 @@ close_so old after result live is answers =
       moves = record { settings = refl; life_is = close_life (size_shown old.buffer.buffering) old.buffer.can.writable result old.buffer.life after.life answers.moves.life_is; place = refl; written = tt };
       lines = tt;
       blames = tt;
+      tells = tt;
       joined = joined_of (with_buffer old after) (text_closed old.buffer after old.held old.at old.taken old.settings result live answers is);
       owes = owes_none (over_of old) Close (over_of (with_buffer old after)) tt (passes_behind old.buffer.raw after.raw old.buffer.owed.bytes after.owed.bytes [] (front_passes old.buffer after answers.owes));
       lays = λ told. lays_owed (over_of old) [] after.raw.bytes (joined_of old is) (lays_alone old.buffer after is.owes answers.lays told);

@@ -61,6 +61,7 @@ text_anew buffer held new at taken coder reading newline settings none anew behi
       stands = reaches;
       far = is.far;
       forth = omega arith;
+      from = omega arith;
       few = omega (arith, none);
       whole = λ zero. reaches;
       told = λ told live reads.

@@ -11,7 +11,7 @@ use Rattle.py_plain_text.specs.TextFile.{TextSettings}
 use Rattle.py_raw.specs.RawStream.{tells}
 use Rattle.py_raw.proofs.Telling.{tells_still}
 use Rattle.py_stream.specs.Buffer.{Buffer, WhereShown, flat_of}
-use Rattle.py_held_text.specs.Held.{HeldView, whole_of}
+use Rattle.py_held_text.specs.Held.{HeldView, base_of, base_behind, whole_of}
 use Rattle.py_read_text.specs.Knowing.{KnowsTold, IsText}
 use Rattle.py_read_text.specs.Reading.{Follows, Reads, GaveTold}
 use Rattle.py_read_text.proofs.Following.{follows_room}
@@ -30,6 +30,7 @@ text_follows buffer old new at taken settings Behind follows may is = record {
   stands = follows.stands ∙ is.stands;
   far = is.far;
   forth = omega (arith, is.forth, follows.forth);
+  from = omega (arith, is.from, follows.base);
   few = omega (arith, is.forth, is.few, follows.forth, follows.few);
   whole = λ none. ap (λ (xs : List ℕ). at + length xs) follows.whole ∙ is.whole none;
   told = λ told live reads. knows_follows settings (flat_of buffer).bytes buffer.place at taken Behind old new follows (may told) (is.told told live reads);
@@ -50,6 +51,7 @@ text_room buffer held at taken room settings is = record {
   stands = is.stands;
   far = is.far;
   forth = is.forth;
+  from = is.from;
   few = is.few;
   whole = is.whole;
   told = λ told live reads. in_room settings (flat_of buffer).bytes buffer.place at taken held room (is.told told live reads);
@@ -77,6 +79,7 @@ text_read_nothing before after held at taken settings waited faulted live reads 
   stands = is.stands ∙ sym place;
   far = reads.far;
   forth = is.forth;
+  from = is.from;
   few = is.few;
   whole = λ none. is.whole none ∙ sym place;
   told = λ told lives can.
@@ -97,6 +100,7 @@ text_brought before after held part room at taken settings live reading reads pl
   stands = omega (arith, is.stands, place, length-append held.bytes part);
   far = reads.far;
   forth = is.forth;
+  from = is.from;
   few = is.few;
   whole = λ none. omega (arith, is.whole none, place, ap length (whole_part held part), length-append (whole_of held) part);
   told = λ told lives can.
@@ -106,6 +110,10 @@ text_brought before after held part room at taken settings live reading reads pl
       subst (λ (bytes : List ℕ). KnowsTold settings bytes after.place at taken (with_part held part room)) (sym (reads.bytes was))
       (subst (λ (far : ℕ). KnowsTold settings (flat_of before).bytes far at taken (with_part held part room)) (sym place) (knows_part settings (flat_of before).bytes before.place at taken held part room forth (gave was).front knows));
 }
+
+-- the base only moves forth with what is given
+from_given : (held : HeldView) (at count room : ℕ) → at ≤ base_of held → at ≤ base_of (without_front held count room)
+from_given held at count room from = omega (arith, from, length-drop (base_behind count held.given held.mark).passed held.back)
 
 -- characters were given
 pub text_given : (buffer : Buffer) (held : HeldView) (at taken count room : ℕ) (settings : TextSettings) → count ≤ length held.known → IsText buffer held at taken settings → IsText buffer (without_front held count room) at (taken + count) settings
@@ -119,6 +127,7 @@ text_given buffer held at taken count room settings within is = record {
   stands = is.stands;
   far = is.far;
   forth = is.forth;
+  from = from_given held at count room is.from;
   few = omega (arith, is.few, within, length-drop count held.known);
   whole = λ none. ap (λ (xs : List ℕ). at + length xs) (given_none held count room (omega (arith, none))) ∙ is.whole (omega (arith, none));
   told = λ told live reads. knows_given settings (flat_of buffer).bytes buffer.place at taken held count room within (is.told told live reads);

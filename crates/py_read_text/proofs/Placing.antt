@@ -63,6 +63,7 @@ text_cleared before after held at taken place room settings keeps owes far there
   stands = omega (arith, there);
   far = far;
   forth = omega arith;
+  from = omega arith;
   few = omega arith;
   whole = λ zero. omega (arith, there);
   told = λ told lives can.
@@ -100,6 +101,7 @@ text_called before after held at taken settings live keeps passes place flat is 
   stands = is.stands ∙ sym place;
   far = omega (arith, place, is.far);
   forth = is.forth;
+  from = is.from;
   few = is.few;
   whole = λ none. is.whole none ∙ sym place;
   told = λ told lives can.

@@ -26,7 +26,7 @@ use Rattle.py_read_text.specs.Waiting.{ShowsAll}
 use Rattle.py_read_text.specs.Ahead.{AsksAsNeeded}
 use Rattle.py_read_text.specs.TextState.{TextState}
 use Rattle.py_read_text.specs.Owing.{IsJoined, given_by, WriteMovesBy, Starves, Closes}
-use Rattle.py_read_text.specs.Answers.{calls_nothing, gives_text, IsReplyTo, IsComplete, IsShort, PlaceMoves, ReadsOneLine, WriteMoves, LifeMoves, settings_after, closes_again, WantsMemory, ClosesWithRaw, TextPasses, MovesByOwn, TextKeeps, TextHolds, TextBlames, Answers}
+use Rattle.py_read_text.specs.Answers.{calls_nothing, gives_text, IsReplyTo, IsComplete, IsShort, PlaceMoves, ReadsOneLine, WriteMoves, LifeMoves, settings_after, closes_again, WantsMemory, ClosesWithRaw, TextPasses, MovesByOwn, TextKeeps, TextHolds, TextBlames, TextTells, Answers}
 use Rattle.py_read_text.specs.Knowing.{TextView, place_of, over_of, state_of, shown_file}
 use Rattle.py_read_text.specs.Reading.{call_of, asks_none, Reads, KeepsPlace, HoldsNothing, gathers_wait, GatherOutcome, GathersAsNeeded, Finishes, OnlyWhereWaits, WaitsOrLacks, reply_of, waited_in}
 use Rattle.py_read_text.proofs.Steps.{accepts}
@@ -105,6 +105,10 @@ keeps_any : (asked : Wanted) (reply : FileReply) (after : TextState) → TextKee
 keeps_any (Characters size) reply after = tt
 keeps_any (Line limit) reply after = tt
 
+tells_none : (asked : Wanted) (reply : FileReply) (text : TextOver Buffer) → TextTells (call_of asked) reply text
+tells_none (Characters size) reply text = tt
+tells_none (Line limit) reply text = tt
+
 completes : (asked : Wanted) (reply : FileReply) (short : Bool) (old new : Buffer) (writes : Bool) → IsReplyTo writes (call_of asked) reply → IsShort reply short → (IsTrue short → Rose old.raw.waits new.raw.waits) → (IsTrue (says_fault reply) → Rose old.raw.faults new.raw.faults) → rose old.raw.waits new.raw.waits ≡ false → rose old.raw.faults new.raw.faults ≡ false → IsComplete (call_of asked) reply short
 completes (Characters size) reply short old new writes is shorts waits faults calm sound = grind arith
 completes (Line limit) reply short old new writes is shorts waits faults calm sound = grind arith
@@ -172,6 +176,7 @@ answers old new asked waited short reply live can parts =
       wants = wants_none asked reply old.buffer;
       lines = parts.lines;
       blames = parts.blames;
+      tells = tells_none asked reply (over_of old);
       joined = parts.joined;
       owes = owes_none (over_of old) (call_of asked) (over_of new) (writes_no_place asked old.at new.at) (passes_behind old.buffer.raw new.buffer.raw old.buffer.owed.bytes new.buffer.owed.bytes [] parts.reads.passes);
       lays = λ told. lays_owed (over_of old) (given_by old.settings (call_of asked)) new.buffer.raw.bytes parts.was (parts.reads.lays parts.was.below told);

@@ -1,5 +1,5 @@
 -- What is in hand goes on telling where a text stands.
-use Rattle.std.proofs.Common.{◌≡◌, ◌⊎◌, inl, inr, ℕ, ◌+◌, ◌-◌, ◌≤◌, true, List, [], ◌++◌, length, drop, refl, sym, ap, subst, ◌∙◌, arith}
+use Rattle.std.proofs.Common.{◌≡◌, ◌⊎◌, inl, inr, ℕ, ◌+◌, ◌-◌, ◌≤◌, true, List, [], ◌∷◌, ◌++◌, length, drop, refl, sym, ap, subst, ◌∙◌, arith}
 use Rattle.std.proofs.lemmas.List.{append_assoc, length-append, drop-drop, drop-append-le}
 use Rattle.py_flat.specs.Bytes.{left_at}
 use Rattle.py_plain.specs.Handlers.{treatment}
@@ -30,6 +30,7 @@ spot_clean settings bytes far at room since split =
       items = [];
       behind = ap (walk_at settings.encoding (treatment settings.handler settings.encoding) true Unknown at) split ∙ sym (ap (λ (held : HeldView). ahead held true (left_at bytes far)) (anew at));
       moved = inr here;
+      ended = λ knew. absurd (cc);
     }
   where
     anew : (place : ℕ) → rebased (held_from settings place since room) ≡ held_from settings place since room
@@ -55,7 +56,13 @@ spot_follows settings bytes far at Behind old new follows may spot =
       items = spot.items;
       behind = spot.behind ∙ ap (items_before spot.items) (sym (ahead-same old new 0 same rest));
       moved = moved_on at old.given new.given (base_of old) (base_of new) follows.given follows.base spot.moved;
+      ended = follows.ended rest may spot.ended;
     }
+
+-- nothing stands behind a front of nothing
+none_behind : (part rest : List ℕ) → part ++ rest ≡ [] → rest ≡ []
+none_behind [] rest none = none
+none_behind (byte ∷ more) rest none = absurd (cc)
 
 -- bytes were put behind those in hand
 pub spot_part : (settings : TextSettings) (bytes : List ℕ) (far at : ℕ) (held : HeldView) (part : List ℕ) (room : ℕ) → left_at bytes far ≡ part ++ left_at bytes (far + length part) → KnowsSpot settings bytes far at held → KnowsSpot settings bytes (far + length part) at (record held { bytes = held.bytes ++ part; room = room })
@@ -69,6 +76,7 @@ spot_part settings bytes far at held part room split spot =
       items = spot.items;
       behind = spot.behind ∙ ap (items_before spot.items) (ap (ahead (rebased held) true) split ∙ sym (ahead-put rest part held room 0 (omega arith)));
       moved = spot.moved;
+      ended = λ knew. none_behind part rest (sym split ∙ spot.ended knew);
     }
 
 -- where the base stands once it passed some bytes
@@ -96,4 +104,5 @@ spot_given settings bytes far at held count room within spot =
       items = spot.items ++ own.items.0;
       behind = spot.behind ∙ (ap (items_before spot.items) own.items.1 ∙ sym (both-before spot.items own.items.0 (ahead (rebased new) true rest)));
       moved = given_moved at held.given new.given (base_of held) own.passed (base_of new) own.base own.moved spot.moved;
+      ended = spot.ended;
     }

@@ -1,6 +1,7 @@
 -- Where a text stands, by what it has in hand.
-use Rattle.std.proofs.Common.{◌≡◌, ℕ, ◌+◌, ◌≤◌, Bool, true, false, List, [], ◌++◌, length, drop, refl, sym, ap, ◌∙◌, arith}
+use Rattle.std.proofs.Common.{◌≡◌, ◌≢◌, ◌⊎◌, inl, inr, ℕ, ◌+◌, ◌≤◌, Bool, true, false, List, [], ◌++◌, length, drop, refl, sym, ap, ◌∙◌, subst, arith}
 use Rattle.std.proofs.lemmas.List.{append-nil, length-append}
+use Rattle.py_flat.specs.declared.life.Life.TheVariants as life
 use Rattle.py_flat.specs.Bytes.{left_at}
 use Rattle.py_plain.specs.declared.encoding.Encoding.{Encoding}
 use Rattle.py_plain.specs.declared.handler.Handler.{Handler}
@@ -18,12 +19,13 @@ use Rattle.py_telling.specs.Bases.{GoesOnFrom, given_since}
 use Rattle.py_telling.specs.ToldView.{told_shown, IsToldAmong}
 use Rattle.py_telling.proofs.Anywhere.{alike_anywhere}
 use Rattle.py_telling.proofs.Bases.{told_since}
-use Rattle.py_stream.specs.Buffer.{flat_of}
+use Rattle.py_stream.specs.Buffer.{WhereShown, flat_of}
 use Rattle.py_held_text.specs.Held.{HeldView, ahead, base_of, whole_of}
 use Rattle.py_held_text.specs.Bases.{rebased, with_gone}
 use Rattle.py_read_text.specs.Knowing.{TextView, shown_file, KnowsSpot, ReadsBy}
 use Rattle.py_read_text.specs.Reading.{rest_of}
 use Rattle.py_read_text.proofs.Steps.{Tied, rest_is, behind_given}
+use Rattle.py_read_text.proofs.Answering.{Holds, tied_of}
 
 abbrev walk_by : Encoding → Handler → Order → (place : ℕ) → List ℕ → Walk
 walk_by encoding handler order place bytes = walk_at encoding (treatment handler encoding) true order place bytes
@@ -102,3 +104,25 @@ sure_at_end text spot none =
 
 pub tells_at_end : (text : TextView) (shown : Told) → Tied text → reads_texts text.settings.handler ≡ true → ReadsBy text.settings text.held → left_at (flat_of text.buffer).bytes text.buffer.place ≡ [] → IsToldAmong text.held.encoding text.held.handler text.held.newline true (base_of text.held) text.held.given (whole_of text.held) shown → told_shown shown ≡ told (shown_file text)
 tells_at_end text shown tied reads by none among = tells text true shown tied reads by (λ last. none) (sure_at_end text tied.knows.spot none) among
+
+-- Of a text of which characters were taken.
+
+-- it reads
+reads_on : (text : TextView) → Holds text → text.taken ≢ 0 → text.buffer.can.readable ≡ true
+reads_on text is some = by_ahead is.ahead
+  where
+    by_ahead : (text.at ≡ text.buffer.place) ⊎ ((text.buffer.owed.bytes ≡ []) × (text.buffer.can.readable ≡ true)) → text.buffer.can.readable ≡ true
+    by_ahead (inl there) = absurd (some (omega (arith, there, is.stands, is.forth, is.few)))
+    by_ahead (inr reads) = reads.1
+
+-- by whether a decoding knew that no bytes come behind those in hand
+tells_by : (text : TextView) (shown : Told) (tied : Tied text) → reads_texts text.settings.handler ≡ true → ReadsBy text.settings text.held → (ended : Bool) → text.held.ended ≡ ended → IsToldAmong text.held.encoding text.held.handler text.held.newline ended (base_of text.held) text.held.given (whole_of text.held) shown → (ended ≡ false → text.held.given ≤ length (surely_given text.held.encoding text.held.handler text.held.newline false (whole_of text.held))) → told_shown shown ≡ told (shown_file text)
+tells_by text shown tied reads by true knew among sure = tells_at_end text shown tied reads by (tied.knows.spot.ended knew) among
+tells_by text shown tied reads by false knew among sure = tells text false shown tied reads by (λ last. absurd (cc)) (sure refl) among
+
+-- it is told by what is in hand
+pub tells_taken : (text : TextView) (shown : Told) → Holds text → text.buffer.life ≡ life.Live → text.taken ≢ 0 → reads_texts text.held.handler ≡ true → IsToldAmong text.held.encoding text.held.handler text.held.newline text.held.ended (base_of text.held) text.held.given (whole_of text.held) shown → (text.held.ended ≡ false → text.held.given ≤ length (surely_given text.held.encoding text.held.handler text.held.newline false (whole_of text.held))) → WhereShown text.buffer (told_shown shown ≡ told (shown_file text))
+tells_taken text shown is live some reads among sure shows =
+    let can = reads_on text is some in
+    let by = is.reads_by can in
+    tells_by text shown (tied_of text live can is shows) (subst (λ (handler : Handler). reads_texts handler ≡ true) by.handler reads) by text.held.ended refl among sure

@@ -6,7 +6,7 @@ use Rattle.py_flat.specs.declared.fault.IoFault.TheVariants as fault
 use Rattle.py_flat.specs.declared.life.Life.{Life}
 use Rattle.py_flat.specs.declared.life.Life.TheVariants as life
 use Rattle.py_flat.specs.Calls as binary
-use Rattle.py_flat.specs.Calls.{FileReply, Text, Count, Done, NotReady, Unwritten, Refused}
+use Rattle.py_flat.specs.Calls.{FileReply, Text, Count, Cookie, Done, NotReady, Unwritten, Refused}
 use Rattle.py_flat.specs.Causes.{rose, counted}
 use Rattle.py_flat.specs.Lines.{first_line}
 use Rattle.py_flat.specs.ExactStep.{is_closed}
@@ -16,7 +16,11 @@ use Rattle.py_codec.specs.Answers.{text_of}
 use Rattle.py_plain_text.specs.TextFile.{TextPlace, clean_at, TextSettings}
 use Rattle.py_plain_text.specs.TextOver.{TextOver}
 use Rattle.py_plain_text.specs.TextStep.{asks_any, place_taking}
-use Rattle.py_plain_text.specs.TextCalls.{TextFileCall, Read, ReadLine, WriteText, Reconfigure, SetChunkSize, Flush, Close, Detach, OtherKind, changed}
+use Rattle.py_plain_text.specs.declared.text_cookie.TextIOCookie.{TextIOCookie}
+use Rattle.py_plain_text.specs.Cookie as cookie
+use Rattle.py_plain_text.specs.CookieView.{cookie_shown}
+use Rattle.py_plain_text.specs.Landing.{start_of, fed_by}
+use Rattle.py_plain_text.specs.TextCalls.{TextFileCall, Read, ReadLine, WriteText, Tell, Reconfigure, SetChunkSize, Flush, Close, Detach, OtherKind, changed}
 use Rattle.py_plain_text.specs.TextRefusals.{refusal}
 use Rattle.py_plain_text.specs.TextAllowed.{TextFileStep}
 use Rattle.py_plain_text.specs.TextWriting.{written_bytes}
@@ -36,6 +40,11 @@ text_reply (Ok (Some text)) = Text (text_of text)
 text_reply (Ok None) = NotReady
 text_reply (Err why) = Refused why
 
+-- what the answer of a tell says: a cookie as its bytes
+abbrev pub cookie_reply : Result TextIOCookie IoFault → FileReply
+cookie_reply (Ok told) = Cookie (cookie.cookie_bytes (cookie_shown told))
+cookie_reply (Err why) = Refused why
+
 -- Kinds of calls.
 
 -- whether a call gives characters
@@ -44,10 +53,12 @@ gives_text (Read size) = true
 gives_text (ReadLine limit) = true
 gives_text call = false
 
--- whether a call calls no buffer: it asks for no character, only changes settings, or is one that texts don't have
+-- whether a call calls no buffer: it asks for no character, only tells where the text stands, only changes settings, or is one that texts
+-- don't have
 abbrev pub calls_nothing : TextFileCall → Bool
 calls_nothing (Read (Some zero)) = true
 calls_nothing (ReadLine (Some zero)) = true
+calls_nothing Tell = true
 calls_nothing (Reconfigure changes) = true
 calls_nothing (SetChunkSize size) = true
 calls_nothing OtherKind = true
@@ -68,6 +79,8 @@ IsAnswerTo (Read size) (Refused (fault.UnicodeDecodeError start end)) = Unit {0}
 IsAnswerTo (ReadLine limit) (Text characters) = Unit {0}
 IsAnswerTo (ReadLine limit) (Refused (fault.UnicodeDecodeError start end)) = Unit {0}
 IsAnswerTo (WriteText text) (Count count) = count ≡ length text
+IsAnswerTo Tell (Cookie bytes) = Unit {0}
+IsAnswerTo Tell reply = ⊥
 IsAnswerTo (Reconfigure changes) reply = reply ≡ Done
 IsAnswerTo (SetChunkSize size) reply = reply ≡ Done
 IsAnswerTo Flush Done = Unit {0}
@@ -79,6 +92,7 @@ IsAnswerTo call reply = ⊥
 -- the replies that an accepted call may have at all: one that passes on what was written has to wait only over a buffer that writes, and
 -- then a flush, a close and a detaching count 0 bytes as taken
 abbrev pub IsReplyTo : Bool → TextFileCall → FileReply → Type 0
+IsReplyTo writes Tell reply = IsAnswerTo Tell reply
 IsReplyTo writes (Reconfigure changes) reply = reply ≡ Done
 IsReplyTo writes (SetChunkSize size) reply = reply ≡ Done
 IsReplyTo writes (Read size) NotReady = Unit {0}
@@ -184,6 +198,21 @@ abbrev pub TextBlames : TextFileCall → FileReply → TextPlace → (far : ℕ)
 TextBlames (Read size) (Refused (fault.UnicodeDecodeError start end)) place far = BlamesTaken size place start end far
 TextBlames (ReadLine limit) (Refused (fault.UnicodeDecodeError start end)) place far = BlamesTaken limit place start end far
 TextBlames call reply place far = Unit {0}
+
+-- Where a text tells that it stands.
+
+-- bytes that are a cookie: it begins at no byte before that of the text place, and feeds none past what was taken from the buffer, or past
+-- what the text owes itself
+pub record TellsWithin (bytes : List ℕ) (text : TextOver Buffer) : Type 0 where
+  pub told : cookie.Cookie
+  pub bytes_are : cookie.parsed bytes ≡ Some told
+  pub forth : text.place.at ≤ start_of told
+  pub within : start_of told + fed_by told ≤ behind_own text
+
+-- where a text tells that it stands, whether the raw tells or not
+abbrev pub TextTells : TextFileCall → FileReply → TextOver Buffer → Type 0
+TextTells Tell (Cookie bytes) text = TellsWithin bytes text
+TextTells call reply text = Unit {0}
 
 -- The one clause of every call.
 
@@ -327,6 +356,9 @@ pub record Answers (before : TextState) (call : TextFileCall) (reply : FileReply
   pub lines : ReadsOneLine before.text.settings.newline call reply
   -- which range may be refused
   pub blames : TextBlames call reply before.text.place after.text.buffer.place
+  -- where a text tells that it stands: no earlier than the byte of its place, and no further than what was taken from the buffer, or than
+  -- what it owes itself
+  pub tells : TextTells call reply before.text
   -- what the buffer owes and what the text itself does stand one behind the other, and how many characters were taken is bounded by where
   -- the buffer stands
   pub joined : IsJoined after.text

@@ -45,15 +45,15 @@ shown_file text = file_of (state_of text false)
 
 -- nothing in hand, at a byte from which nothing was decoded
 abbrev pub from_place : TextSettings → ℕ → HeldView
-from_place settings at = record { encoding = settings.encoding; handler = settings.handler; newline = settings.newline; known = []; cr = false; back = []; given = 0; mark = None; bytes = []; place = at; order = Unknown; room = 0 }
+from_place settings at = record { encoding = settings.encoding; handler = settings.handler; newline = settings.newline; known = []; cr = false; back = []; given = 0; mark = None; ended = false; bytes = []; place = at; order = Unknown; room = 0 }
 
 -- some characters before what is left
 abbrev pub with_given : List ℕ → Rest → Rest
 with_given given rest = record { characters = given ++ rest.characters; refusal = rest.refusal }
 
 -- told, of bytes of which those up to a place were taken, and of a text that stands at one of them: those in hand lie where the base stands,
--- behind whole items from the text place on; what is known of the base and of the mark; and a character was given since the base, or that
--- is the text place
+-- behind whole items from the text place on; what is known of the base and of the mark; a character was given since the base, or that is
+-- the text place; and none come behind those in hand where a decoding knew so
 pub record KnowsSpot (settings : TextSettings) (bytes : List ℕ) (far at : ℕ) (held : HeldView) : Type 0 where
   pub order : held.order ≡ Unknown
   pub lies : left_at bytes (base_of held) ≡ whole_of held ++ left_at bytes far
@@ -62,6 +62,7 @@ pub record KnowsSpot (settings : TextSettings) (bytes : List ℕ) (far at : ℕ)
   pub items : List Item
   pub behind : ahead (from_place settings at) true (left_at bytes at) ≡ items_before items (ahead (rebased held) true (left_at bytes far))
   pub moved : (1 ≤ held.given) ⊎ (base_of held ≡ at)
+  pub ended : held.ended ≡ true → left_at bytes far ≡ []
 
 -- told, of bytes of which those up to a place were taken: what is left from the text place on is the characters taken, and then what is
 -- left of what is in hand and comes behind it. And of every front of what comes behind: what the bytes taken and that front surely give
@@ -102,7 +103,8 @@ HasWhole held at far = at + length (whole_of held) ≡ far
 
 -- what holds of every text: what its buffer owes ends at the buffer's place, and once bytes were read it owes nothing; the bytes in hand
 -- are the last that were taken from the buffer, and no more characters were taken and are known than the bytes used since the text place
--- can give, six for each. While none was taken, the base is the text place: all bytes since are in hand
+-- can give, six for each. The base stands nowhere before the text place; while no character was taken, it is that: all bytes since are in
+-- hand
 pub record IsText (buffer : Buffer) (held : HeldView) (at taken : ℕ) (settings : TextSettings) : Type 0 where
   pub reads_by : buffer.can.readable ≡ true → ReadsBy settings held
   pub asks : 0 < settings.chunk_size
@@ -113,6 +115,7 @@ pub record IsText (buffer : Buffer) (held : HeldView) (at taken : ℕ) (settings
   pub stands : held.place + length held.bytes ≡ buffer.place
   pub far : buffer.place ≤ greatest_place
   pub forth : at ≤ held.place
+  pub from : at ≤ base_of held
   pub few : taken + known_with_cr held ≤ 6 * (held.place - at)
   pub whole : taken ≡ 0 → HasWhole held at buffer.place
   pub told : WhereShown buffer (buffer.life ≡ life.Live → buffer.can.readable ≡ true → KnowsTold settings (flat_of buffer).bytes buffer.place at taken held)

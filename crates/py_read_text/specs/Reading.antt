@@ -59,6 +59,7 @@ pub record Follows (Behind : List ℕ → Type 0) (old new : HeldView) : Type 0 
   pub whole : whole_of new ≡ whole_of old
   pub given : new.given ≡ old.given
   pub bases : (more : List ℕ) → Behind more → (gone : List ℕ) → KnowsBases more old gone → KnowsBases more new gone
+  pub ended : (more : List ℕ) → Behind more → (old.ended ≡ true → more ≡ []) → new.ended ≡ true → more ≡ []
   pub few : known_with_cr new + 6 * old.place ≤ known_with_cr old + 6 * new.place
   pub left : (more : List ℕ) → Behind more → left_with new more ≡ left_with old more
   pub shows : (more : List ℕ) → Behind more → length (left_so_far old more).characters ≤ length (left_so_far new more).characters

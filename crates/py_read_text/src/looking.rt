@@ -1,6 +1,6 @@
 //! How far what a text has in hand reaches.
 ghost use Rattle.py_read_text.specs.Reading.{Coming, Follows, IsTold, LookOutcome, StopOutcome, IsReady};
-ghost use Rattle.std.specs.Prelude.{true, false, IfOk};
+ghost use Rattle.std.specs.Prelude.{◌≡◌, true, false, IfOk};
 ghost use Rattle.py_held_text.specs.Decodes.{IsDrained, RefusesNext};
 
 use py_flat::IoFault;
@@ -32,6 +32,7 @@ fn stopped(
     end: u64,
 ) -> Result<Gathered, IoFault>
     requires range { RefusesNext last held.old start end }
+    requires ended { last ≡ true → held.old.ended ≡ true }
     ensures follows { Follows (Coming last) held.old held.new }
     ensures outcome { StopOutcome last wanted result held.new }
     ensures told { IfOk result IsTold }

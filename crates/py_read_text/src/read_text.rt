@@ -17,7 +17,9 @@ ghost use Rattle.py_stream.specs.Writing.{OwesUpTo, Takes};
 ghost use Rattle.py_stream.specs.Buffer.{WhereShown, flat_of, stream_shown, AnswersAsBuffer};
 ghost use Rattle.py_held_text.specs.Finding.{IsFrontOf, answer_of};
 ghost use Rattle.py_read_text.specs.Reading.{size_of, asks_all, KeepsPlace, FetchOutcome, GatherOutcome, GathersAsNeeded, asks_none, GiveOutcome, GiveAllOutcome, GatheredAt, Finishes, OnlyWhereWaits, WaitsOrLacks, reply_of, call_of, waited_in};
-ghost use Rattle.py_read_text.specs.Knowing.{over_of, state_of, IsClean, IsSetTo};
+ghost use Rattle.py_plain_text.specs.Telling.{told};
+ghost use Rattle.py_telling.specs.ToldView.{told_shown, IsTold};
+ghost use Rattle.py_read_text.specs.Knowing.{over_of, state_of, shown_file, IsClean, IsSetTo};
 ghost use Rattle.py_read_text.specs.Writing.{StandsBehind, ReturnOutcome};
 ghost use Rattle.py_read_text.specs.Owing.{IsJoined};
 ghost use Rattle.py_read_text.specs.Answers.{Answers};
@@ -28,6 +30,7 @@ use py_flat::{IoFault, Life};
 use py_held_text::{Coder, HeldFront, HeldText, Wanted};
 use py_plain::Newlines;
 use py_stream::BufferedStream;
+use py_telling::Told;
 use py_text::{Reconfigure, TextSettings};
 use std::alloc::Global;
 use std::fmt;
@@ -267,6 +270,27 @@ impl<B: BufferedStream> ReadText<B> {
         ensures { result ≡ self.now.dirty }
     {
         self.dirty
+    }
+
+    /// Where the live text stands. It calls no raw, and takes no memory.
+    pub fn tell(&mut self) -> Told
+        requires live { self.old.buffer.life ≡ Life.Live }
+        ensures told { WhereShown self.old.buffer (told_shown result ≡ told (shown_file self.old)) }
+        ensures forth { self.old.at ≤ result.start }
+        ensures fits { result.start + result.length ≤ self.old.buffer.place }
+        ensures within { IsTold result }
+        ensures same { self.new ≡ self.old }
+    {
+        if self.taken == 0 {
+            return Told {
+                start: self.at,
+                length: 0,
+                skipped: 0,
+            };
+        }
+        // The handler of what is in hand is one that texts are read with.
+        let _ = self.held.coder();
+        self.held.tell()
     }
 
     /// How many bytes the buffer took of the last that were written to it.

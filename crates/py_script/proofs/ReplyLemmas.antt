@@ -1,7 +1,9 @@
 -- A reply is told by its line.
-use Rattle.std.proofs.Common.{◌≡◌, ℕ, suc, ◌<◌, ◌^◌, Bool, true, false, List, [], ◌∷◌, ◌++◌, length, get_or, codes, map, Option, Some, None, Ok, encode_utf8_all, refl, sym, ap, subst, ◌∙◌, append_assoc, arith}
+use Rattle.std.proofs.Common.{◌≡◌, ℕ, zero, suc, ◌<◌, ◌^◌, ◌%◌, Bool, true, false, List, [], ◌∷◌, ◌++◌, length, get_or, codes, map, Option, Some, None, Ok, encode_utf8_all, refl, sym, ap, subst, ◌∙◌, append_assoc, arith}
 use Rattle.std.specs.Prelude.{if◌then◌else◌, IfSome}
+use Rattle.std.specs.Bool.{⊤}
 use Rattle.std.specs.Fmt.{decimal}
+use Rattle.std.specs.Int.{w32, w64, cast_unsigned, to_le_bytes}
 use Rattle.std.specs.List.{All}
 use Rattle.std.specs.Str.{bytes_eq}
 use Rattle.std.specs.Str.Parse.{AllDigits}
@@ -10,11 +12,16 @@ use Rattle.std.proofs.lemmas.Str.{encodes_same}
 use Rattle.hex.specs.Hex.{IsBytes, encode_with, encode_lower, decode_of}
 use Rattle.hex.proofs.HexLemmas.{decode_of-encode_lower}
 use Rattle.py_calls.specs.declared.reply.Reply.{Reply}
-use Rattle.py_calls.specs.declared.reply.Reply.TheVariants.{Bytes, Text, Lines, Count, Place, Done, NotReady, Flag, Name, Unwritten, Refused}
+use Rattle.py_calls.specs.declared.reply.Reply.TheVariants.{Bytes, Text, Lines, Count, Place, Cookie, Done, NotReady, Flag, Name, Unwritten, Refused}
 use Rattle.py_flat.specs.declared.fault.IoFault.{IoFault}
+use Rattle.py_plain_text.specs.declared.text_cookie.TextIOCookie.{TextIOCookie}
+use Rattle.py_plain_text.specs.Cookie as seen
+use Rattle.py_plain_text.specs.Cookie.{cookie_of, cookie_bytes, number_bytes, flag_byte}
+use Rattle.py_plain_text.specs.CookieView.{cookie_shown}
+use Rattle.py_plain_text.proofs.Building.{cookie_back}
 use Rattle.py_script.specs.Words.{spaced}
 use Rattle.py_script.specs.ReplyLine.{hex_of, place_of, reply_word, reply_fields, reply_line}
-use Rattle.py_script.specs.ReplyRange.{IsInRange}
+use Rattle.py_script.specs.ReplyRange.{FitFields, IsInRange}
 use Rattle.py_script.proofs.WordLemmas.{is_word, AreWords, cut, rest_of_line, rest_ends_word, rest_of_line_same, one_word_same, hex_word, hex_lines_words, decimal_word}
 use Rattle.py_script.proofs.FaultLemmas.{fault_words, fault_same}
 
@@ -75,6 +82,7 @@ kind (Flag value) = 8
 kind (Name name) = 9
 kind (Unwritten bytes place) = 10
 kind (Refused fault) = 11
+kind (Cookie cookie) = 12
 
 -- the number of the kind that a word names
 kind_of : List ℕ → ℕ
@@ -89,6 +97,7 @@ kind_of word =
     else if bytes_eq word (codes "name") then 9
     else if bytes_eq word (codes "detached") then 10
     else if bytes_eq word (codes "err") then 11
+    else if bytes_eq word (codes "cookie") then 12
     else 8
 
 -- a reply's word names its kind
@@ -99,6 +108,7 @@ kind_of_word (Text text) = refl
 kind_of_word (Lines lines) = refl
 kind_of_word (Count count) = refl
 kind_of_word (Place place) = refl
+kind_of_word (Cookie cookie) = refl
 kind_of_word Done = refl
 kind_of_word NotReady = refl
 kind_of_word (Flag true) = refl
@@ -114,6 +124,7 @@ reply_word_word (Text text) = refl
 reply_word_word (Lines lines) = refl
 reply_word_word (Count count) = refl
 reply_word_word (Place place) = refl
+reply_word_word (Cookie cookie) = refl
 reply_word_word Done = refl
 reply_word_word NotReady = refl
 reply_word_word (Flag true) = refl
@@ -172,6 +183,77 @@ place_reply_same : (place : ℕ) (b : Reply) → Alike (Place place) b → Place
 unfolding kind
 place_reply_same x (Place y) alike = ap Place (decimal_injective x y alike.range_a alike.range_b (one_word_same (decimal x) (decimal y) alike.rests))
 place_reply_same x b alike = absurd (omega (arith, alike.kinds))
+
+-- bytes one by one
+abbrev AreBytes : List ℕ → Type 0
+AreBytes [] = ⊤
+AreBytes (byte ∷ bytes) = (byte < 256) × AreBytes bytes
+
+are_bytes : (bytes : List ℕ) → AreBytes bytes → IsBytes bytes
+are_bytes [] are i = omega arith
+are_bytes (byte ∷ bytes) are zero = are.0
+are_bytes (byte ∷ bytes) are (suc i) = are_bytes bytes are.1 i
+
+small : (number : ℕ) → number % 256 < 256
+small number = omega arith
+
+flag_small : (flag : Bool) → flag_byte flag < 256
+flag_small true = omega arith
+flag_small false = omega arith
+
+-- the bytes of a number before others
+four_before : (number : ℕ) (bytes : List ℕ) → AreBytes bytes → AreBytes (to_le_bytes w32 number ++ bytes)
+four_before number bytes are = (small _, (small _, (small _, (small _, are))))
+
+eight_before : (number : ℕ) (bytes : List ℕ) → AreBytes bytes → AreBytes (to_le_bytes w64 number ++ bytes)
+eight_before number bytes are = (small _, (small _, (small _, (small _, (small _, (small _, (small _, (small _, are))))))))
+
+-- the bytes of a cookie are bytes
+cookie_small : (cookie : seen.Cookie) → IsBytes (cookie_bytes cookie)
+cookie_small cookie =
+    let last : List ℕ = flag_byte cookie.need_eof ∷ number_bytes w32 cookie.bytes_to_skip in
+    let skipped : List ℕ = number_bytes w32 cookie.chars_to_skip ++ last in
+    let fed : List ℕ = number_bytes w32 cookie.bytes_to_feed ++ skipped in
+    let flags : List ℕ = number_bytes w32 cookie.dec_flags ++ fed in
+    let ends : AreBytes last = (flag_small cookie.need_eof, (small _, (small _, (small _, (small _, tt))))) in
+    let skips : AreBytes skipped = four_before (cast_unsigned w32 cookie.chars_to_skip) last ends in
+    let feeds : AreBytes fed = four_before (cast_unsigned w32 cookie.bytes_to_feed) skipped skips in
+    are_bytes (cookie_bytes cookie) (eight_before (cast_unsigned w64 cookie.start_pos) flags (four_before (cast_unsigned w32 cookie.dec_flags) fed feeds))
+
+-- a cookie that is in range is read from its bytes
+cookie_read : (cookie : TextIOCookie) → FitFields cookie → cookie_of (cookie_bytes (cookie_shown cookie)) ≡ cookie_shown cookie
+cookie_read cookie fit = cookie_back (cookie_shown cookie) (record {
+  start_pos = fit.start_pos;
+  dec_flags = fit.dec_flags;
+  bytes_to_feed = fit.bytes_to_feed;
+  chars_to_skip = fit.chars_to_skip;
+  bytes_to_skip = fit.bytes_to_skip;
+})
+
+-- the cookie that is shown so
+unshown : seen.Cookie → TextIOCookie
+unshown cookie = record {
+  start_pos = cookie.start_pos;
+  dec_flags = cookie.dec_flags;
+  bytes_to_feed = cookie.bytes_to_feed;
+  chars_to_skip = cookie.chars_to_skip;
+  need_eof = cookie.need_eof;
+  bytes_to_skip = cookie.bytes_to_skip;
+}
+
+-- what is shown of a cookie tells it
+shown_same : (a b : TextIOCookie) → cookie_shown a ≡ cookie_shown b → a ≡ b
+unfolding unshown
+shown_same a b same = ap unshown same
+
+-- a reply alike to a cookie is that cookie
+cookie_same : (cookie : TextIOCookie) (b : Reply) → Alike (Cookie cookie) b → Cookie cookie ≡ b
+unfolding kind
+cookie_same x (Cookie y) alike =
+    let texts = one_word_same (hex_of (cookie_bytes (cookie_shown x))) (hex_of (cookie_bytes (cookie_shown y))) alike.rests in
+    let bytes : cookie_bytes (cookie_shown x) ≡ cookie_bytes (cookie_shown y) = hex_same _ _ (cookie_small (cookie_shown x)) (cookie_small (cookie_shown y)) texts in
+    ap Cookie (shown_same x y (sym (cookie_read x alike.range_a) ∙ ap cookie_of bytes ∙ cookie_read y alike.range_b))
+cookie_same x b alike = absurd (omega (arith, alike.kinds))
 
 -- a reply alike to done is done
 done_same : (b : Reply) → Alike Done b → Done ≡ b
@@ -235,6 +317,7 @@ same_from_alike (Text text) b alike = text_same text b alike
 same_from_alike (Lines lines) b alike = lines_same lines b alike
 same_from_alike (Count count) b alike = count_same count b alike
 same_from_alike (Place place) b alike = place_reply_same place b alike
+same_from_alike (Cookie cookie) b alike = cookie_same cookie b alike
 same_from_alike Done b alike = done_same b alike
 same_from_alike NotReady b alike = not_ready_same b alike
 same_from_alike (Flag value) b alike = flag_same value b alike

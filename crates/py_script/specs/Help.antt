@@ -47,7 +47,7 @@ script_help =
     [] ∷
     codes "Each call is answered by a line:" ∷
     codes "  bytes HEX, text HEX, lines N HEX ..   what was read, of a text its UTF-8" ∷
-    codes "  count N, place N, true, false, ok     how many, where, yes, no, done" ∷
+    codes "  count N, place N, cookie HEX, true, false, ok   how many, where, yes, no, done" ∷
     codes "  notready          the file was not ready: make the call again" ∷
     codes "  detached HEX N    handed back: HEX may be unwritten, of place N (-: unknown)" ∷
     codes "  err NAME ..       refused: Closed, Detached, Failed before; RawFault: the file" ∷

@@ -152,6 +152,8 @@ pub fn examples_of_replies()
     ensures lines { reply_line (Reply.Lines ((97 ∷ 10 ∷ []) ∷ [] ∷ (98 ∷ []) ∷ [])) ≡ codes "lines 3 610a - 62\n" }
     ensures count { reply_line (Reply.Count 0) ≡ codes "count 0\n" }
     ensures place { reply_line (Reply.Place 18446744073709551615) ≡ codes "place 18446744073709551615\n" }
+    ensures cookie { reply_line (Reply.Cookie (record { start_pos = pos 4; dec_flags = pos 0; bytes_to_feed = pos 0; chars_to_skip = pos 0; need_eof = false; bytes_to_skip = pos 0 }))
+        ≡ codes "cookie 04000000000000000000000000000000000000000000000000\n" }
     ensures done { reply_lines (Reply.Done ∷ Reply.NotReady ∷ []) ≡ codes "ok\nnotready\n" }
     ensures flag { reply_lines (Reply.Flag true ∷ Reply.Flag false ∷ []) ≡ codes "true\nfalse\n" }
     ensures name { reply_line (Reply.Name (codes "utf-8")) ≡ codes "name utf-8\n" }

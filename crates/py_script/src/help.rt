@@ -31,7 +31,7 @@ Lines that are empty or begin with # are skipped. A close is added at the end.
 
 Each call is answered by a line:
   bytes HEX, text HEX, lines N HEX ..   what was read, of a text its UTF-8
-  count N, place N, true, false, ok     how many, where, yes, no, done
+  count N, place N, cookie HEX, true, false, ok   how many, where, yes, no, done
   notready          the file was not ready: make the call again
   detached HEX N    handed back: HEX may be unwritten, of place N (-: unknown)
   err NAME ..       refused: Closed, Detached, Failed before; RawFault: the file

@@ -23,7 +23,7 @@ enum WordOption {
 }
 
 /// The options that were given so far.
-#[derive(Debug, Drop)]
+#[derive(Debug, Default, Drop)]
 struct Given {
     buffering: Option<i64>,
     encoding: Option<Chars>,
@@ -37,13 +37,7 @@ struct Given {
 pub(crate) fn parse_options(alloc: Global, words: &[String]) -> Result<Option<OpenArgs>, AllocError>
     ensures { IfOk result (λ args. args ≡ arguments_of (map string_bytes words.now)) }
 {
-    let mut given = Given {
-        buffering: None,
-        encoding: None,
-        errors: None,
-        newline: None,
-        chunk_size: None,
-    };
+    let mut given = Given::default();
     for word in words {
         let Some(option) = parse_option(alloc, word)? else {
             return Ok(None);
@@ -89,20 +83,13 @@ fn given_with(given: Given, option: WordOption) -> Option<Given>
 fn arguments_by(given: Given) -> OpenArgs
     ensures { result ≡ arguments_by given }
 {
-    let Given {
-        buffering,
-        encoding,
-        errors,
-        newline,
-        chunk_size,
-    } = given;
     let defaults = OpenArgs::default();
     OpenArgs {
-        buffering: buffering.unwrap_or(defaults.buffering),
-        encoding,
-        errors,
-        newline,
-        chunk_size: chunk_size.unwrap_or(defaults.chunk_size),
+        buffering: given.buffering.unwrap_or(defaults.buffering),
+        encoding: given.encoding,
+        errors: given.errors,
+        newline: given.newline,
+        chunk_size: given.chunk_size.unwrap_or(defaults.chunk_size),
     }
 }
 

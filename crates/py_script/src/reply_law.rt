@@ -3,10 +3,10 @@ ghost use Rattle.std.specs.List.{All};
 ghost use Rattle.hex.specs.Hex.{IsBytes};
 ghost use Rattle.py_script.specs.Faults.{fault_numbers};
 ghost use Rattle.py_script.specs.ReplyLine.{reply_line};
-ghost use Rattle.py_script.specs.ReplyRange.{AreSmall, IsInRange};
+ghost use Rattle.py_script.specs.ReplyRange.{AreSmall, FitFields, IsInRange};
 
 use crate::reply_line::utf8;
-use py_calls::Reply;
+use py_calls::{Reply, TextIOCookie};
 use py_flat::{Data, IoFault};
 
 /// A reply's line tells the reply: no two replies are printed alike.
@@ -27,10 +27,8 @@ pub(crate) fn read_reply(reply: &Reply)
         Reply::Lines(lines) => read_lines(lines.as_slice()),
         Reply::Count(count) => read_number(*count),
         Reply::Place(place) => read_number(*place),
-        Reply::Done => {}
-        Reply::NotReady => {}
-        Reply::Flag(_) => {}
-        Reply::Name(_) => {}
+        Reply::Cookie(cookie) => read_cookie(*cookie),
+        Reply::Done | Reply::NotReady | Reply::Flag(_) | Reply::Name(_) => {}
         Reply::Unwritten { bytes, place } => read_unwritten(bytes, *place),
         Reply::Refused(fault) => read_fault(*fault),
     }
@@ -54,6 +52,11 @@ pub(crate) fn read_lines(lines: &[Data])
 /// A number is below 2 ^ 64.
 fn read_number(number: u64)
     ensures { number < 2 ^ 64 }
+{}
+
+/// The fields of a cookie are in range.
+fn read_cookie(cookie: TextIOCookie)
+    ensures { FitFields cookie }
 {}
 
 /// Bytes and a place are in range.

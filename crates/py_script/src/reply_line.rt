@@ -1,4 +1,6 @@
 ghost use Rattle.std.specs.Prelude.{◌≡◌, ◌++◌, ◌∷◌, [], length, map, decimal, encode_utf8_all, OnOk, OnErr, IfOk};
+ghost use Rattle.py_plain_text.specs.Cookie.{cookie_bytes};
+ghost use Rattle.py_plain_text.specs.CookieView.{cookie_shown};
 ghost use Rattle.py_script.specs.Words.{spaced};
 ghost use Rattle.py_script.specs.Faults.{fault_name, fault_numbers};
 ghost use Rattle.py_calls.specs.declared.reply.Reply.{Reply};
@@ -8,7 +10,7 @@ ghost use Rattle.py_script.specs.ReplyLine.{hex_of, place_of, reply_word, reply_
 use crate::fault_name;
 use crate::reply_law::read_reply;
 use hex::encode;
-use py_calls::Reply;
+use py_calls::{Reply, TextIOCookie};
 use py_flat::{Chars, Data, IoFault};
 use std::alloc::{AllocError, Global};
 
@@ -16,8 +18,8 @@ use std::alloc::{AllocError, Global};
 /// unchanged.
 ///
 /// The line begins with a word for the reply's kind, and each further word stands after one space: bytes, a text's
-/// UTF-8 and lines as hex in lower case (`-` for none), numbers as decimals (docs/PROGRAM.md). It tells the reply: no other
-/// has this line.
+/// UTF-8, lines and a cookie as hex in lower case (`-` for none), numbers as decimals (docs/PROGRAM.md). It tells the reply: no
+/// other has this line.
 pub fn push_reply_line(alloc: Global, out: &mut Vec<u8>, reply: &Reply) -> Result<(), AllocError>
     ensures ok { OnOk result (out.new.items ≡ out.old.items ++ reply_line reply.now) }
     ensures err { OnErr result (out.new.items ≡ out.old.items) }
@@ -47,6 +49,7 @@ fn reply_word(reply: &Reply) -> &'static str
         Reply::Lines(_) => "lines",
         Reply::Count(_) => "count",
         Reply::Place(_) => "place",
+        Reply::Cookie(_) => "cookie",
         Reply::Done => "ok",
         Reply::NotReady => "notready",
         Reply::Flag(true) => "true",
@@ -67,9 +70,8 @@ fn push_fields(alloc: Global, line: &mut Vec<u8>, reply: &Reply) -> Result<(), A
         Reply::Lines(lines) => push_lines(alloc, line, lines.as_slice()),
         Reply::Count(count) => push_number(alloc, line, *count),
         Reply::Place(place) => push_number(alloc, line, *place),
-        Reply::Done => Ok(()),
-        Reply::NotReady => Ok(()),
-        Reply::Flag(_) => Ok(()),
+        Reply::Cookie(cookie) => push_cookie(alloc, line, *cookie),
+        Reply::Done | Reply::NotReady | Reply::Flag(_) => Ok(()),
         Reply::Name(name) => push_word(line, utf8(name)),
         Reply::Unwritten { bytes, place } => push_unwritten(alloc, line, bytes.as_slice(), *place),
         Reply::Refused(fault) => push_fault(alloc, line, *fault),
@@ -109,6 +111,19 @@ fn push_hex(alloc: Global, line: &mut Vec<u8>, bytes: &[u8]) -> Result<(), Alloc
         let digits = encode(alloc, bytes)?;
         push_word(line, digits.as_bytes())
     }
+}
+
+/// Adds the 25 bytes of a cookie as hex, after a space.
+fn push_cookie(alloc: Global, line: &mut Vec<u8>, cookie: TextIOCookie) -> Result<(), AllocError>
+    ensures { OnOk result (line.new.items ≡ line.old.items ++ spaced (hex_of (cookie_bytes (cookie_shown cookie)) ∷ [])) }
+{
+    let mut bytes = Vec::from_slice(alloc, &cookie.start_pos.to_le_bytes())?;
+    bytes.extend_from_slice(&cookie.dec_flags.to_le_bytes())?;
+    bytes.extend_from_slice(&cookie.bytes_to_feed.to_le_bytes())?;
+    bytes.extend_from_slice(&cookie.chars_to_skip.to_le_bytes())?;
+    bytes.push(u8::from(cookie.need_eof))?;
+    bytes.extend_from_slice(&cookie.bytes_to_skip.to_le_bytes())?;
+    push_hex(alloc, line, &bytes)
 }
 
 /// Adds how many lines there are, and each as hex, all after a space.

@@ -27,7 +27,7 @@ enum Setting {
 }
 
 /// The settings of a line that were given so far, and the place of the last of them; 0 before the first.
-#[derive(Clone, Copy, Debug)]
+#[derive(Clone, Copy, Debug, Default)]
 struct Settings {
     changes: Reconfigure,
     last: usize,
@@ -41,10 +41,7 @@ pub(crate) fn parse_settings(
 ) -> Result<Option<Reconfigure>, AllocError>
     ensures { IfOk result (λ changes. changes ≡ changes_of_words (map (λ word. word.now) words.now)) }
 {
-    let mut given = Settings {
-        changes: Reconfigure::default(),
-        last: 0,
-    };
+    let mut given = Settings::default();
     for word in words {
         let Some(setting) = parse_setting(alloc, word)? else {
             return Ok(None);
@@ -89,28 +86,15 @@ fn place_of(setting: Setting) -> usize
 fn with_setting(changes: Reconfigure, setting: Setting) -> Reconfigure
     ensures { result ≡ with_setting changes setting }
 {
+    let mut with = changes;
     match setting {
-        Setting::Encoding(encoding) => Reconfigure {
-            encoding: Some(encoding),
-            ..changes
-        },
-        Setting::Errors(handler) => Reconfigure {
-            errors: Some(handler),
-            ..changes
-        },
-        Setting::Newline(rule) => Reconfigure {
-            newline: Some(rule),
-            ..changes
-        },
-        Setting::LineBuffering(value) => Reconfigure {
-            line_buffering: Some(value),
-            ..changes
-        },
-        Setting::WriteThrough(value) => Reconfigure {
-            write_through: Some(value),
-            ..changes
-        },
+        Setting::Encoding(encoding) => with.encoding = Some(encoding),
+        Setting::Errors(handler) => with.errors = Some(handler),
+        Setting::Newline(rule) => with.newline = Some(rule),
+        Setting::LineBuffering(value) => with.line_buffering = Some(value),
+        Setting::WriteThrough(value) => with.write_through = Some(value),
     }
+    with
 }
 
 /// The setting of a word, a name, `=` and a value, or `None` where it is none; `Err` when out of memory.
@@ -240,11 +224,9 @@ fn hex_rule(alloc: Global, value: &[u8]) -> Result<Option<Newlines>, AllocError>
 fn switch_value(value: &[u8]) -> Option<bool>
     ensures { result ≡ switch_value value.now }
 {
-    if value == "0".as_bytes() {
-        Some(false)
-    } else if value == "1".as_bytes() {
-        Some(true)
-    } else {
-        None
+    match value {
+        [b'0'] => Some(false),
+        [b'1'] => Some(true),
+        _ => None,
     }
 }

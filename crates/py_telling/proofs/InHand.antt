@@ -19,6 +19,8 @@ use Rattle.py_plain_text.proofs.Translated.{none_read}
 use Rattle.py_plain_text.proofs.Inside.{treat_of, read_of, Walks, Begins, begins}
 use Rattle.py_telling.specs.Spots.{at_byte, spot_cookie, adds, lf_in, behind_lf, spot_behind, items_from}
 use Rattle.py_telling.specs.InHand.{surely_read, surely_given, StandsBehind, LieIn}
+use Rattle.py_telling.specs.declared.told.Told.{Told}
+use Rattle.py_telling.specs.ToldView.{spot_shown, IsToldAmong}
 use Rattle.py_telling.proofs.Walking.{nothing, spot_step, spot_inside, spot_reached}
 use Rattle.py_telling.proofs.Counting.{none_held, holds_more, grows, so_far_within, so_far_long}
 use Rattle.py_telling.proofs.Boundaries.{held_of, walks_next}
@@ -184,9 +186,13 @@ told_by file reads unknown front false bytes more is ended sure =
     (subst (λ (t : List ℕ). file.place.taken ≤ len t) (sure_is file.settings.encoding file.settings.handler file.settings.newline false file.place.at bytes) sure)
 
 -- the spot that is found among the bytes in hand is what the text tells
-pub told_in_hand : (encoding : Encoding) (handler : Handler) (newline : Newlines) (last : Bool) (bytes : List ℕ) (place given : ℕ) → reads_texts handler ≡ true → given ≤ len (surely_given encoding handler newline last bytes) → (file : TextFile) → StandsBehind encoding handler newline place given file → LieIn last place bytes file → spot_cookie (spot_behind newline given false place (items_from encoding handler last place 0 bytes)) ≡ told file
+told_in_hand : (encoding : Encoding) (handler : Handler) (newline : Newlines) (last : Bool) (bytes : List ℕ) (place given : ℕ) → reads_texts handler ≡ true → given ≤ len (surely_given encoding handler newline last bytes) → (file : TextFile) → StandsBehind encoding handler newline place given file → LieIn last place bytes file → spot_cookie (spot_behind newline given false place (items_from encoding handler last place 0 bytes)) ≡ told file
 told_in_hand encoding handler newline last bytes place given reads sure file stands lies =
     let reads_it : reads_texts file.settings.handler ≡ true = ap reads_texts stands.handler_is ∙ reads in
     let sure_it : file.place.taken ≤ len (surely_given file.settings.encoding file.settings.handler file.settings.newline last bytes) = rw (stands.encoding_is, stands.handler_is, stands.newline_is, stands.taken) sure in
     let same : spot_behind file.settings.newline file.place.taken false file.place.at (items_from file.settings.encoding file.settings.handler last file.place.at 0 bytes) ≡ spot_behind newline given false place (items_from encoding handler last place 0 bytes) = rw (stands.encoding_is, stands.handler_is, stands.newline_is, stands.taken, stands.at) refl in
     sym (told_by file reads_it stands.order stands.front last bytes lies.more (ap (λ (p : ℕ). drop p file.bytes) stands.at ∙ lies.bytes_are) lies.last_are sure_it ∙ ap spot_cookie same)
+
+pub told_among_hand : (encoding : Encoding) (handler : Handler) (newline : Newlines) (last : Bool) (bytes : List ℕ) (place given : ℕ) (shown : Told) → reads_texts handler ≡ true → spot_shown shown ≡ spot_behind newline given false place (items_from encoding handler last place 0 bytes) → IsToldAmong encoding handler newline last place given bytes shown
+told_among_hand encoding handler newline last bytes place given shown reads is = λ sure file stands lies.
+    ap spot_cookie is ∙ told_in_hand encoding handler newline last bytes place given reads sure file stands lies

@@ -29,10 +29,10 @@ step_by encoding treat last order place (byte ∷ rest) cs (suc used) inside som
     ∙ ap (λ (k : ℕ). onto_walk order place (Given cs (suc used)) (walk_at encoding treat last order (place + suc used) (drop k rest))) one
 
 -- an item that is read at a place
-abbrev item_at : ℕ → List ℕ → ℕ → Item
+abbrev pub item_at : ℕ → List ℕ → ℕ → Item
 item_at place cs used = record { start = place; length = used; order = Unknown; characters = cs }
 
-items_step : (encoding : Encoding) (handler : Handler) (last : Bool) (place at : ℕ) (bytes cs : List ℕ) (used : ℕ) → at < len bytes → 1 ≤ used → first_item encoding (treatment handler encoding) last Unknown (place + at) (drop at bytes) ≡ Given cs used → items_from encoding handler last place at bytes ≡ item_at (place + at) cs used ∷ items_from encoding handler last place (at + used) bytes
+pub items_step : (encoding : Encoding) (handler : Handler) (last : Bool) (place at : ℕ) (bytes cs : List ℕ) (used : ℕ) → at < len bytes → 1 ≤ used → first_item encoding (treatment handler encoding) last Unknown (place + at) (drop at bytes) ≡ Given cs used → items_from encoding handler last place at bytes ≡ item_at (place + at) cs used ∷ items_from encoding handler last place (at + used) bytes
 items_step encoding handler last place at bytes cs used inside some is =
     let treat : Treatment = treatment handler encoding in
     let far : place + at + used ≡ place + (at + used) = omega arith in
@@ -171,7 +171,7 @@ spot_character encoding handler newline last place at bytes left held c used ins
     ∙ ap (λ (p : ℕ). spot_behind newline (left - adds held (c ∷ [])) (holds newline held (c ∷ [])) p items) far))
 
 -- characters of which none is a line end
-adds_all : (held : Bool) (cs : List ℕ) → HaveNoLineEnd cs → adds held cs ≡ len cs
+pub adds_all : (held : Bool) (cs : List ℕ) → HaveNoLineEnd cs → adds held cs ≡ len cs
 adds_all held [] unbroken = omega arith
 adds_all true (c ∷ cs) unbroken =
     let isnt = unbroken.0 in
@@ -190,7 +190,7 @@ all_and : (a b : Bool) → b ≡ true → (a && b) ≡ a
 all_and true b all = all
 all_and false b all = refl
 
-holds_none : (newline : Newlines) (held : Bool) (count : ℕ) (cs : List ℕ) → len cs ≡ count → HaveNoLineEnd cs → holds newline held cs ≡ (held && nat_eq count 0)
+pub holds_none : (newline : Newlines) (held : Bool) (count : ℕ) (cs : List ℕ) → len cs ≡ count → HaveNoLineEnd cs → holds newline held cs ≡ (held && nat_eq count 0)
 holds_none newline held count [] long unbroken =
     let is : nat_eq count 0 ≡ true = eq-eqb count 0 (sym long) in
     sym (all_and held (nat_eq count 0) is)

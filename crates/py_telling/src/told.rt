@@ -4,8 +4,11 @@ ghost use Rattle.py_plain.specs.Handlers.{reads_texts};
 ghost use Rattle.py_plain_text.specs.CookieView.{cookie_shown};
 ghost use Rattle.py_telling.specs.Spots.{at_byte, adds, holds, behind_lf, spot_behind, items_from};
 ghost use Rattle.py_telling.specs.ToldView.{spot_shown, told_shown, IsTold, IsToldAmong};
+ghost use Rattle.py_telling.specs.Walks.{IsWalked};
 
+use crate::plain_run::plain_run;
 use crate::seen_item::{SeenItem, first_seen};
+use crate::walked::Walked;
 use py_plain::{Encoding, Handler, Newlines};
 use py_plain_text::TextIOCookie;
 
@@ -69,6 +72,8 @@ fn added(held: bool, character: char) -> usize
 fn boundary(place: u64, at: usize) -> Told
     requires near { place + at ≤ greatest_place }
     ensures spot { spot_shown result ≡ at_byte (place + at) }
+    ensures start { result.start ≡ place + at }
+    ensures length { result.length ≡ 0 }
     ensures within { IsTold result }
 {
     Told {
@@ -107,7 +112,8 @@ fn behind_lf(encoding: Encoding, handler: Handler, bytes: &[u8], at: usize, last
     at
 }
 
-/// The spot behind so many characters of some bytes that stand at a place, or the end of those that can be read.
+/// The spot behind so many characters of some bytes that stand at a place, or the end of those that can be read; and the last boundary
+/// that was walked to. The walk goes on from where one came to before.
 fn spot_among(
     encoding: Encoding,
     handler: Handler,
@@ -115,52 +121,77 @@ fn spot_among(
     bytes: &[u8],
     place: u64,
     given: u128,
+    from: Walked,
     last: bool,
-) -> Told
+) -> (Told, Walked)
     requires reads { reads_texts handler ≡ true }
     requires near { place + length bytes.now ≤ greatest_place }
-    ensures spot { spot_shown result ≡ spot_behind newline given false place (items_from encoding handler last place 0 bytes.now) }
-    ensures within { IsTold result }
+    requires walked { IsWalked encoding handler newline bytes.now given from }
+    ensures spot { spot_shown result.0 ≡ spot_behind newline given false place (items_from encoding handler last place 0 bytes.now) }
+    ensures forth { place ≤ result.0.start }
+    ensures fits { result.0.start + result.0.length ≤ place + length bytes.now }
+    ensures within { IsTold result.0 }
+    ensures walked { last ≡ false → IsWalked encoding handler newline bytes.now given result.1 }
 {
-    let mut at = 0;
-    let mut left = given;
-    let mut held = false;
-    while left > 0 {
+    let mut walked = from;
+    while walked.count < given {
+        let at = walked.passed;
         if at >= bytes.len() {
-            return boundary(place, at);
+            return (boundary(place, at), walked);
+        }
+        let run = plain_run(encoding, walked.held, &bytes[at..], given - walked.count);
+        if run > 0 {
+            walked = Walked {
+                passed: at + run,
+                count: walked.count + run as u128,
+                held: false,
+            };
+            continue;
         }
         match first_seen(encoding, handler, &bytes[at..], last) {
             SeenItem::Character { character, used } => {
-                left -= added(held, character) as u128;
-                held = is_held(newline, character);
-                at += used;
+                walked = Walked {
+                    passed: at + used,
+                    count: walked.count + added(walked.held, character) as u128,
+                    held: is_held(newline, character),
+                };
             }
             SeenItem::Replaced { count, used } => {
+                let left = given - walked.count;
                 if left < count as u128 {
-                    return Told {
+                    let inside = Told {
                         start: place + at as u64,
                         length: used,
                         skipped: left as usize,
                     };
+                    return (inside, walked);
                 }
-                left -= count as u128;
-                held = stays_held(held, count);
-                at += used;
+                walked = Walked {
+                    passed: at + used,
+                    count: walked.count + count as u128,
+                    held: stays_held(walked.held, count),
+                };
             }
-            SeenItem::Refused | SeenItem::Unfinished => return boundary(place, at),
+            SeenItem::Refused | SeenItem::Unfinished => return (boundary(place, at), walked),
         }
     }
-    if held {
-        return boundary(place, behind_lf(encoding, handler, bytes, at, last));
+    if walked.held {
+        let next = behind_lf(encoding, handler, bytes, walked.passed, last);
+        return (boundary(place, next), walked);
     }
-    boundary(place, at)
+    (boundary(place, walked.passed), walked)
 }
 
 /// Where a text stands of which so many characters were given since a place, by the bytes in hand from there on; `last` says that none
 /// come behind them. It is what the text tells where these bytes surely give so many, whatever comes behind them.
 ///
 /// It is the first byte between two characters, or refused ranges, from which the text goes on as it does, never one inside CR LF that is
-/// read as one; and where there is none, inside the characters that stand for one refused range. Each byte is read once, or twice.
+/// read as one; and where there is none, inside the characters that stand for one refused range.
+///
+/// The bytes are read from where a walk came to before, `from` (`Walked::default()` where none did): runs of ASCII without CR at once, and
+/// anything else one character or one refused range at a time. How far this walk came is answered beside the place: the next one goes on
+/// from there, also where bytes come behind these and more characters are given. Where none come behind them (`last`), the walk was right
+/// for their end alone, and `from` itself is answered.
 pub fn told_among(
     encoding: Encoding,
     handler: Handler,
@@ -168,12 +199,21 @@ pub fn told_among(
     bytes: &[u8],
     place: u64,
     given: u128,
+    from: Walked,
     last: bool,
-) -> Told
+) -> (Told, Walked)
     requires reads { reads_texts handler ≡ true }
     requires near { place + length bytes.now ≤ greatest_place }
-    ensures told { IsToldAmong encoding handler newline last place given bytes.now result }
-    ensures within { IsTold result }
+    requires walked { IsWalked encoding handler newline bytes.now given from }
+    ensures told { IsToldAmong encoding handler newline last place given bytes.now result.0 }
+    ensures forth { place ≤ result.0.start }
+    ensures fits { result.0.start + result.0.length ≤ place + length bytes.now }
+    ensures within { IsTold result.0 }
+    ensures walked { IsWalked encoding handler newline bytes.now given result.1 }
 {
-    spot_among(encoding, handler, newline, bytes, place, given, last)
+    let (told, walked) = spot_among(encoding, handler, newline, bytes, place, given, from, last);
+    if last {
+        return (told, from);
+    }
+    (told, walked)
 }

@@ -81,6 +81,7 @@ says_all old new one all first at answers told = record {
   moves = record { settings = answers.moves.settings; life_is = answers.moves.life_is; place = answers.moves.place; written = tt };
   lines = tt;
   blames = tt;
+  tells = tt;
   joined = answers.joined;
   owes = answers.owes;
   lays = answers.lays;

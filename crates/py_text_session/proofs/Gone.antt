@@ -8,7 +8,7 @@ use Rattle.py_flat.specs.FlatFile.{Abilities, Buffering}
 use Rattle.py_flat.specs.Calls.{Refused}
 use Rattle.py_plain_text.specs.TextFile.{TextFile, TextPlace, TextSettings}
 use Rattle.py_plain_text.specs.TextOver.{TextOver}
-use Rattle.py_plain_text.specs.TextCalls.{TextFileCall, Read, ReadLine, WriteText, Reconfigure, SetChunkSize, Flush, Close, Detach, is_getter}
+use Rattle.py_plain_text.specs.TextCalls.{TextFileCall, Read, ReadLine, WriteText, Tell, Reconfigure, SetChunkSize, Flush, Close, Detach, is_getter}
 use Rattle.py_plain_text.specs.TextRefusals.{refusal}
 use Rattle.py_plain_text.specs.TextAllowed.{SettledBy, TextFileStep}
 use Rattle.py_raw.specs.RawStream.{Raw}
@@ -16,7 +16,7 @@ use Rattle.py_raw.proofs.Telling.{keeps_same}
 use Rattle.py_stream.specs.Buffer.{Buffer}
 use Rattle.py_read_text.specs.TextState.{TextState, file_of}
 use Rattle.py_read_text.specs.Owing.{all_owed, IsJoined, Closes}
-use Rattle.py_read_text.specs.Answers.{Answers, settings_after, LifeMoves, PlaceMoves, ReadsOneLine, WriteMoves, closes_again, WantsMemory, ClosesWithRaw, TextPasses, TextKeeps, TextHolds, TextBlames, MovesByOwn}
+use Rattle.py_read_text.specs.Answers.{Answers, settings_after, LifeMoves, PlaceMoves, ReadsOneLine, WriteMoves, closes_again, WantsMemory, ClosesWithRaw, TextPasses, TextKeeps, TextHolds, TextBlames, TextTells, MovesByOwn}
 use Rattle.py_read_text.proofs.Owing.{passes_none, moves_none, owes_none, open_still}
 use Rattle.py_read_text.proofs.Fronts.{lays_still}
 use Rattle.py_text_session.specs.Handing.{gone_text}
@@ -89,6 +89,10 @@ blames_none (Read size) place far = tt
 blames_none (ReadLine limit) place far = tt
 blames_none call place far = tt
 
+tells_none : (call : TextFileCall) (text : TextOver Buffer) → TextTells call (Refused fault.Detached) text
+tells_none Tell text = tt
+tells_none call text = tt
+
 holds_none : (before : TextOver Buffer) (call : TextFileCall) (after : TextOver Buffer) → TextHolds before call (Refused fault.Detached) after
 holds_none before (WriteText text) after = tt
 holds_none before call after = tt
@@ -114,6 +118,7 @@ gone_answers can buffering settings raw call asks =
       moves = record { settings = settings_stay call settings; life_is = life_stays can.writable call; place = place_stays call gone.text.place; written = written_stays settings call gone.text.place };
       lines = lines_none call settings.newline;
       blames = blames_none call gone.text.place gone.text.buffer.place;
+      tells = tells_none call gone.text;
       joined = gone_joined can buffering settings raw;
       owes = owes_none gone.text call gone.text (moves_none call gone.text.place.at) (passes_none raw (all_owed gone.text));
       lays = lays_still gone.text _;

@@ -11,6 +11,7 @@ mod unwritten;
 
 pub use laws::{a_wait_loses_nothing, settled_only_blames_itself};
 pub use lines::TextLines;
+pub use py_plain_text::TextIOCookie;
 pub use py_stream::{Access, Detached, NewRefused};
 pub use text_session::TextSession;
 pub use unwritten::TextUnwritten;

@@ -1,9 +1,11 @@
 //! A text over a raw stream: a text over a buffered stream of it.
-ghost use Rattle.std.specs.Prelude.{◌≡◌, ◌≢◌, ◌<◌, ◌≤◌, ◌-◌, ◌++◌, true, false, [], length, chars, vec_len, vec_capacity, option_map, IfSome};
+ghost use Rattle.std.specs.Prelude.{◌≡◌, ◌≢◌, ◌<◌, ◌≤◌, ◌-◌, ◌++◌, true, false, [], length, chars, vec_len, vec_capacity, option_map, IfSome, IfOk};
 ghost use Rattle.py_flat.specs.Calls.{Refused};
 ghost use Rattle.py_flat.specs.ExactStep.{is_closed};
-ghost use Rattle.py_plain_text.specs.TextCalls.{Read, ReadLine, WriteText, SetChunkSize, Flush, Close, OtherKind};
+ghost use Rattle.py_plain_text.specs.TextCalls.{Read, ReadLine, WriteText, Tell, SetChunkSize, Flush, Close, OtherKind};
 ghost use Rattle.py_plain_text.specs.TextCalls as text_call;
+ghost use Rattle.py_plain_text.specs.Cookie.{is_buildable};
+ghost use Rattle.py_plain_text.specs.CookieView.{cookie_shown};
 ghost use Rattle.py_plain_text.specs.TextRefusals.{fits_handler};
 ghost use Rattle.py_text.specs.Settings.{changes_of};
 ghost use Rattle.py_stream.specs.Access.{can_of};
@@ -12,7 +14,7 @@ ghost use Rattle.py_stream.specs.Replies.{count_reply, done_reply};
 ghost use Rattle.py_read_text.specs.TextState.{settings_of};
 ghost use Rattle.py_read_text.specs.Owing.{all_owed};
 ghost use Rattle.py_read_text.specs.Answers as over;
-ghost use Rattle.py_read_text.specs.Answers.{Answers};
+ghost use Rattle.py_read_text.specs.Answers.{Answers, cookie_reply};
 ghost use Rattle.py_text_session.specs.Answers.{text_reply};
 ghost use Rattle.py_buffered_core.specs.Buffered.{as_buffer};
 ghost use Rattle.py_textio.specs.Handing.{HasRoomBehind};
@@ -24,6 +26,7 @@ use crate::{TextLines, TextUnwritten};
 use py_buffered_core::Buffered;
 use py_flat::{Chars, IoFault, Life};
 use py_plain::{Encoding, Handler, Newlines};
+use py_plain_text::TextIOCookie;
 use py_raw::RawStream;
 use py_stream::{Access, Detached, NewRefused};
 use py_text::{Coder, Reconfigure, TextSettings};
@@ -180,6 +183,18 @@ impl<R: RawStream> TextSession<R> {
         self.text.write(alloc, text)
     }
 
+    /// Where the text stands, as a cookie of 25 bytes that `TextIOCookie::build` gives: the least boundary between characters from which the
+    /// text goes on as it does, or where there is none, inside the characters that stand for one range that its handler replaces. It calls
+    /// no raw, takes no memory and changes nothing.
+    ///
+    /// `Unsupported` where its raw can't be moved.
+    pub fn tell(&mut self) -> Result<TextIOCookie, IoFault>
+        ensures answers { Answers self.old Tell (cookie_reply result) self.new }
+        ensures builds { IfOk result (λ cookie. is_buildable (cookie_shown cookie) ≡ true) }
+    {
+        self.text.tell()
+    }
+
     /// Asks its buffer for n bytes at once from here on. No answer hangs on it.
     ///
     /// `BadArgument` for 0.
@@ -246,7 +261,7 @@ impl<R: RawStream> TextSession<R> {
         self.text.writable()
     }
 
-    /// Whether its raw can be moved. The text itself isn't moved so far.
+    /// Whether its raw can be moved, so that the text tells where it stands. The text itself isn't moved so far.
     pub fn seekable(&self) -> bool
         ensures { result ≡ self.now.text.buffer.can.seekable }
     {

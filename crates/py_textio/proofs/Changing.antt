@@ -164,6 +164,7 @@ set_answers view changes live accepted joined = record {
   moves = record { settings = refl; life_is = refl; place = refl; written = tt };
   lines = tt;
   blames = tt;
+  tells = tt;
   joined = joined;
   lays = lays_still (over_of view) _;
   unclosed = λ some closed. refl;

@@ -102,6 +102,7 @@ refuses_so old new why other answers =
       moves = record { settings = answers.moves.settings; life_is = life_refused old.text.buffer.can.writable why old.text.life new.text.life answers.moves.life_is; place = answers.moves.place; written = tt };
       lines = tt;
       blames = tt;
+      tells = tt;
       joined = answers.joined;
       owes = record { taken = answers.owes.taken; whole = answers.owes.whole; place = tt; passes = answers.owes.passes };
       lays = answers.lays;
@@ -176,6 +177,7 @@ detached_done old new live answers =
       moves = record { settings = answers.moves.settings; life_is = refl; place = answers.moves.place; written = tt };
       lines = tt;
       blames = tt;
+      tells = tt;
       joined = answers.joined;
       owes = record { taken = answers.owes.taken; whole = answers.owes.whole; place = tt; passes = answers.owes.passes };
       lays = answers.lays;
@@ -244,6 +246,7 @@ hands_failed old failed joined =
       moves = record { settings = refl; life_is = refl; place = refl; written = tt };
       lines = tt;
       blames = tt;
+      tells = tt;
       joined = joined;
       owes = owes_none old.text Detach (handed_over old old.text.buffer old.text.owed).text tt (passes_none old.text.buffer.raw (all_owed old.text));
       lays = lays_still old.text _;

@@ -1,5 +1,6 @@
 mod Refusing
 mod Changing
+mod Telling
 mod Settling
 mod Working
 mod Over

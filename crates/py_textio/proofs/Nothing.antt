@@ -87,6 +87,7 @@ none_answers (Characters size) old was live can none joined = record {
   moves = record { settings = refl; life_is = refl; place = none_moves (Characters size) (place_now old) old.text.buffer.place none; written = tt };
   lines = tt;
   blames = tt;
+  tells = tt;
   joined = joined;
   owes = owes_none (over_of old) (call_of (Characters size)) (over_of old) tt (passes_none old.text.buffer.raw (all_owed (over_of old)));
   lays = lays_still (over_of old) _;
@@ -121,6 +122,7 @@ none_answers (Line limit) old was live can none joined = record {
   moves = record { settings = refl; life_is = refl; place = none_moves (Line limit) (place_now old) old.text.buffer.place none; written = tt };
   lines = none_lines (Line limit) old.text.settings.newline none;
   blames = tt;
+  tells = tt;
   joined = joined;
   owes = owes_none (over_of old) (call_of (Line limit)) (over_of old) tt (passes_none old.text.buffer.raw (all_owed (over_of old)));
   lays = lays_still (over_of old) _;

@@ -11,7 +11,7 @@ use Rattle.py_flat.specs.AllowedStep.{settled}
 use Rattle.py_flat.proofs.Settling.{blames}
 use Rattle.py_plain_text.specs.TextFile.{TextFile, TextPlace, TextSettings}
 use Rattle.py_plain_text.specs.TextOver.{TextOver}
-use Rattle.py_plain_text.specs.TextCalls.{TextFileCall, Read, ReadLine, WriteText, Reconfigure, SetChunkSize, Flush, Close, Detach, OtherKind}
+use Rattle.py_plain_text.specs.TextCalls.{TextFileCall, Read, ReadLine, WriteText, Tell, Reconfigure, SetChunkSize, Flush, Close, Detach, OtherKind}
 use Rattle.py_plain_text.specs.TextRefusals.{refusal}
 use Rattle.py_plain_text.specs.TextExact.{with_chunk_size}
 use Rattle.py_plain_text.specs.TextAllowed.{SettledBy, TextFileStep}
@@ -23,7 +23,7 @@ use Rattle.py_held_text.specs.declared.wanted.Wanted.{Wanted}
 use Rattle.py_held_text.specs.declared.wanted.Wanted.TheVariants.{Characters, Line}
 use Rattle.py_read_text.specs.TextState.{TextState}
 use Rattle.py_read_text.specs.Owing.{all_owed, IsJoined, Starves, Closes}
-use Rattle.py_read_text.specs.Answers.{IsShort, PlaceMoves, ReadsOneLine, WriteMoves, LifeMoves, settings_after, closes_again, WantsMemory, ClosesWithRaw, TextPasses, TextKeeps, TextHolds, TextBlames, Answers}
+use Rattle.py_read_text.specs.Answers.{IsShort, PlaceMoves, ReadsOneLine, WriteMoves, LifeMoves, settings_after, closes_again, WantsMemory, ClosesWithRaw, TextPasses, TextKeeps, TextHolds, TextBlames, TextTells, Answers}
 use Rattle.py_read_text.specs.Reading.{call_of}
 use Rattle.py_read_text.proofs.Owing.{passes_none, moves_none, owes_none, open_still}
 use Rattle.py_read_text.proofs.Steps.{accepts}
@@ -141,6 +141,10 @@ blames_refused file (ReadLine limit) (fault.UnicodeDecodeError start end) place 
 blames_refused file (ReadLine limit) why place far is = tt
 blames_refused file call why place far is = tt
 
+tells_refused : (call : TextFileCall) (why : IoFault) (text : TextOver Buffer) → TextTells call (Refused why) text
+tells_refused Tell why text = tt
+tells_refused call why text = tt
+
 holds_refused : (before : TextOver Buffer) (call : TextFileCall) (why : IoFault) (after : TextOver Buffer) → TextHolds before call (Refused why) after
 holds_refused before (WriteText text) why after = tt
 holds_refused before call why after = tt
@@ -160,6 +164,7 @@ refused text was call why is own once joined =
       moves = record { settings = settings_refused call why text.text.settings; life_is = life_refused text.text.buffer.can.writable call why text.life own; place = place_refused call why (place_now text) text.text.buffer.place; written = written_refused text.text.settings call why (place_now text) own };
       lines = lines_refused call why text.text.settings.newline;
       blames = blames_refused (file_now text) call why (place_now text) text.text.buffer.place is;
+      tells = tells_refused call why (over_of text);
       joined = joined;
       owes = owes_none (over_of text) call (over_of text) (moves_none call (place_now text).at) (passes_none text.text.buffer.raw (all_owed (over_of text)));
       lays = lays_still (over_of text) _;
@@ -276,6 +281,7 @@ closed_again now text was same is joined =
       moves = record { settings = refl; life_is = is; place = refl; written = tt };
       lines = tt;
       blames = tt;
+      tells = tt;
       joined = joined;
       owes = owes_none (over_of text) Close (over_of text) tt (passes_none text.text.buffer.raw (all_owed (over_of text)));
       lays = lays_still (over_of text) _;
@@ -352,6 +358,7 @@ chunks_so now text new was size same live some joined is =
       moves = record { settings = refl; life_is = refl; place = refl; written = tt };
       lines = tt;
       blames = tt;
+      tells = tt;
       joined = joined;
       owes = owes_none (over_of text) (SetChunkSize size) (over_of (with_chunk text size)) tt (passes_none text.text.buffer.raw (all_owed (over_of text)));
       lays = lays_still (over_of text) _;
@@ -429,6 +436,7 @@ over_short now text was call reply after same passes answers = subst (λ (before
   moves = record { settings = answers.moves.settings; life_is = answers.moves.life_is; place = answers.moves.place; written = answers.moves.written };
   lines = answers.lines;
   blames = answers.blames;
+  tells = answers.tells;
   joined = answers.joined;
   owes = answers.owes;
   lays = answers.lays;

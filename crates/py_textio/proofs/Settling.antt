@@ -240,7 +240,7 @@ written_passed old new pending left reply before after is some answers takes sta
       unwritten = λ never. absurd (some (is.unwritten (sym (ap (λ (can : Abilities). can.writable) answers.keeps.can) ∙ never)).0);
     }
 
-abbrev view_of : TextView → List ℕ → ℕ → Life → WrittenView
+abbrev pub view_of : TextView → List ℕ → ℕ → Life → WrittenView
 view_of text pending room current = record { text = text; pending = pending; room = room; life = current }
 
 pub settled_at : (now : WrittenView) (old new : TextView) (pending left : List ℕ) (room more : ℕ) (before after : Life) (result : Result ℕ IoFault) → view_of old pending room before ≡ now → IsWritten old pending before → pending ≢ [] → now.life ≡ life.Live → AnswersAsBuffer old.buffer (Write pending) (count_reply result) new.buffer → Takes (stream_shown old.buffer) pending (stream_shown new.buffer) → StandsBehind old new → left ≡ drop new.buffer.taken pending → after ≡ new.buffer.life → SettleOutcome now (unit_of result) (view_of new left more after)
@@ -257,7 +257,7 @@ joined_with text (byte ∷ more) room current is =
     record { below = is.joined.below; stands = inr (omega (arith, stands.1)); behind = omega (arith, is.joined.behind); far = is.far; few = omega (arith, stands.0.taken) }
 
 -- a text that owes nothing itself, seen by its parts and as the text that reads is
-state_same : (text : TextView) (pending : List ℕ) (room : ℕ) (current : Life) (short : Bool) → pending ≡ [] → current ≡ text.buffer.life → read_state text short ≡ state_of (view_of text pending room current) short
+pub state_same : (text : TextView) (pending : List ℕ) (room : ℕ) (current : Life) (short : Bool) → pending ≡ [] → current ≡ text.buffer.life → read_state text short ≡ state_of (view_of text pending room current) short
 state_same text pending room current short none lives =
     subst (λ (owed : List ℕ). read_state text short ≡ state_of (view_of text owed room current) short) (sym none)
     (subst (λ (own : Life). read_state text short ≡ state_of (view_of text [] room own) short) (sym lives) refl)

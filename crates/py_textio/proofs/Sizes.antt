@@ -11,7 +11,7 @@ use Rattle.py_plain.specs.NewlineRule.{line_end}
 use Rattle.py_plain_text.specs.TextFile.{TextFile}
 use Rattle.py_plain_text.specs.Rest.{text_rest}
 use Rattle.py_plain_text.specs.TextStep.{asks_past, asks_any, range_refusal, after_taking, after_text_read, answered_text}
-use Rattle.py_plain_text.specs.TextCalls.{TextFileCall, Read, ReadLine, SeekText, Tell, SetChunkSize, Close, Detach, ChunkSize}
+use Rattle.py_plain_text.specs.TextCalls.{TextFileCall, Read, ReadLine, SeekText, SetChunkSize, Close, Detach, ChunkSize}
 use Rattle.py_plain_text.specs.TextRefusals.{refusal}
 use Rattle.py_plain_text.specs.TextExact.{answered, carried_out, with_chunk_size}
 use Rattle.py_plain_text.specs.TextAllowed.{Settled, SettledBy, Accepted, DetachesIn}
@@ -59,10 +59,9 @@ left_line None file chunk limit =
 
 -- Any call.
 
--- calls that tell neither a chunk size nor a place, and don't go to one
+-- calls that tell no chunk size, and don't go to a place
 abbrev pub goes_alike : TextFileCall → Bool
 goes_alike (SeekText cookie whence) = false
-goes_alike Tell = false
 goes_alike ChunkSize = false
 goes_alike call = true
 
@@ -98,7 +97,6 @@ carried_alike file chunk (SetChunkSize size) is lives = record { says = refl; ch
 carried_alike file chunk Close is lives = record { says = refl; chunk = chunk; leaves = refl; lives = closes_not }
 carried_alike file chunk Detach is lives = record { says = refl; chunk = chunk; leaves = refl; lives = detaches_not }
 carried_alike file chunk (SeekText cookie whence) is lives = absurd (cc)
-carried_alike file chunk Tell is lives = absurd (cc)
 carried_alike file chunk ChunkSize is lives = absurd (cc)
 carried_alike file chunk call is lives = record { says = refl; chunk = chunk; leaves = refl; lives = lives }
 
@@ -134,12 +132,10 @@ settled_alike file chunk call reply replied left right is lives one other =
 
 -- Calls of texts over buffers.
 
--- no call tells a chunk size or a place by the clause of all calls, nor goes to one
+-- no call tells a chunk size by the clause of all calls, nor goes to a place
 unanswered : (call : TextFileCall) (reply : FileReply) → goes_alike call ≡ false → IsAnswerTo call reply → reply ≢ Refused fault.NoMemory → ⊥
 unanswered (SeekText cookie whence) (Refused fault.NoMemory) is answers had = absurd (had refl)
 unanswered (SeekText cookie whence) reply is answers had = answers
-unanswered Tell (Refused fault.NoMemory) is answers had = absurd (had refl)
-unanswered Tell reply is answers had = answers
 unanswered ChunkSize (Refused fault.NoMemory) is answers had = absurd (had refl)
 unanswered ChunkSize reply is answers had = answers
 unanswered call reply is answers had = absurd (cc)

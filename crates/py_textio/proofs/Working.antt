@@ -1,10 +1,17 @@
 -- A call for which the buffer was called meets the clause of all calls.
-use Rattle.std.proofs.Common.{Bool, false, sym, ◌∙◌, subst}
+use Rattle.std.proofs.Common.{◌≡◌, Bool, false, sym, ◌∙◌, subst}
 use Rattle.py_flat.specs.Calls.{FileReply}
-use Rattle.py_plain_text.specs.TextCalls.{TextFileCall}
-use Rattle.py_read_text.specs.Answers.{LifeMoves, IsReplyTo, Answers}
-use Rattle.py_textio.specs.Written.{WrittenView, state_of}
+use Rattle.py_plain_text.specs.TextOver.{TextOver}
+use Rattle.py_plain_text.specs.TextCalls.{TextFileCall, Tell}
+use Rattle.py_stream.specs.Buffer.{Buffer}
+use Rattle.py_read_text.specs.Answers.{calls_nothing, LifeMoves, IsReplyTo, TextTells, Answers}
+use Rattle.py_textio.specs.Written.{WrittenView, over_of, state_of}
 use Rattle.py_textio.specs.Working.{Works}
+
+-- a call for which the buffer is called tells no place
+tells_not : (call : TextFileCall) (reply : FileReply) (text : TextOver Buffer) → calls_nothing call ≡ false → TextTells call reply text
+tells_not Tell reply text some = absurd (cc)
+tells_not call reply text some = tt
 
 pub answers_work : (old : WrittenView) (call : TextFileCall) (reply : FileReply) (new : WrittenView) (short : Bool) → Works old call reply new short → Answers (state_of old false) call reply (state_of new short)
 answers_work old call reply new short works = record {
@@ -23,6 +30,7 @@ answers_work old call reply new short works = record {
   };
   lines = works.lines;
   blames = works.blames;
+  tells = tells_not call reply (over_of old) works.some;
   joined = works.joined;
   owes = works.owes;
   lays = works.lays;

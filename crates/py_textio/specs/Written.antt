@@ -10,6 +10,10 @@ use Rattle.py_flat.specs.Calls.{FileReply, Count, NotReady, Write, Refused}
 use Rattle.py_flat.specs.Causes.{Rose}
 use Rattle.py_plain_text.specs.TextFile.{TextPlace, TextFile}
 use Rattle.py_plain_text.specs.TextOver.{TextOver}
+use Rattle.py_plain_text.specs.declared.text_cookie.TextIOCookie.{TextIOCookie}
+use Rattle.py_plain_text.specs.Cookie.{cookie_bytes, is_buildable}
+use Rattle.py_plain_text.specs.CookieView.{cookie_shown}
+use Rattle.py_plain_text.specs.Telling.{told}
 use Rattle.py_plain_text.specs.TextWriting.{writes_texts}
 use Rattle.py_raw.specs.RawStream.{AnswersFor}
 use Rattle.py_stream.specs.Stream.{size_of}
@@ -18,7 +22,7 @@ use Rattle.py_stream.specs.Buffer.{Buffer, WhereShown, flat_of, size_shown, stre
 use Rattle.py_read_text.specs.TextState.{TextState, file_of}
 use Rattle.py_read_text.specs.Knowing.{TextView, place_of, over_of as read_of, IsClean}
 use Rattle.py_read_text.specs.Owing.{all_owed, IsJoined, PassesOwed, LaysOwed, FailedWithOwn, GaveOwn, StopsOwing, KeepsOpen}
-use Rattle.py_read_text.specs.Answers.{further, StandsWhileLive, IsPassedOn, KeepsFew}
+use Rattle.py_read_text.specs.Answers.{further, StandsWhileLive, IsPassedOn, KeepsFew, TellsWithin}
 
 -- the text that reads; the bytes that were written and that its buffer hasn't, with room for more; and its life
 pub record WrittenView : Type 0 where
@@ -68,6 +72,13 @@ pub record IsWritten (text : TextView) (pending : List ℕ) (current : Life) : T
 -- a text that owes bytes itself has room for as many more as its buffer holds
 abbrev pub HasRoom : Buffer → List ℕ → ℕ → Type 0
 HasRoom buffer pending room = pending ≢ [] → unwrap_or (size_shown buffer.buffering) 0 ≤ room
+
+-- Where a text tells that it stands: told, what the file that it stands for tells, by a cookie that can be built; and within what was taken
+-- from the buffer, or what the text owes itself
+pub record TellsPlace (view : WrittenView) (cookie : TextIOCookie) : Type 0 where
+  pub told : WhereShown view.text.buffer (cookie_shown cookie ≡ told (file_now view))
+  pub within : TellsWithin (cookie_bytes (cookie_shown cookie)) (over_of view)
+  pub builds : is_buildable (cookie_shown cookie) ≡ true
 
 -- Handing on what is owed.
 

@@ -1,9 +1,11 @@
 //! A text that has its buffer: each call is refused by its life or an ability, or answered by the text below.
-ghost use Rattle.std.specs.Prelude.{◌≡◌, ◌≢◌, ◌≤◌, ◌-◌, true, false, [], Some, None, chars, length, unwrap_or, vec_len, vec_capacity, if◌then◌else◌};
+ghost use Rattle.std.specs.Prelude.{◌≡◌, ◌≢◌, ◌≤◌, ◌-◌, true, false, [], Some, None, chars, length, unwrap_or, vec_len, vec_capacity, if◌then◌else◌, IfOk};
 ghost use Rattle.py_flat.specs.Calls.{Refused};
 ghost use Rattle.py_flat.specs.ExactStep.{is_closed};
-ghost use Rattle.py_plain_text.specs.TextCalls.{Read, ReadLine, WriteText, SetChunkSize, Flush, Close, OtherKind};
+ghost use Rattle.py_plain_text.specs.TextCalls.{Read, ReadLine, WriteText, Tell, SetChunkSize, Flush, Close, OtherKind};
 ghost use Rattle.py_plain_text.specs.TextCalls as text_call;
+ghost use Rattle.py_plain_text.specs.Cookie.{is_buildable};
+ghost use Rattle.py_plain_text.specs.CookieView.{cookie_shown};
 ghost use Rattle.py_text.specs.Settings.{changes_of};
 ghost use Rattle.py_stream.specs.Kinds.{says_wait};
 ghost use Rattle.py_stream.specs.Replies.{count_reply, done_reply};
@@ -12,7 +14,7 @@ ghost use Rattle.py_stream.specs.Buffer.{size_shown};
 ghost use Rattle.py_read_text.specs.Reading.{call_of};
 ghost use Rattle.py_read_text.specs.Opening.{WrapOutcome};
 ghost use Rattle.py_read_text.specs.Owing.{IsJoined};
-ghost use Rattle.py_read_text.specs.Answers.{Answers, text_reply};
+ghost use Rattle.py_read_text.specs.Answers.{Answers, text_reply, cookie_reply};
 ghost use Rattle.py_read_text.specs.TextState.{settings_of};
 ghost use Rattle.py_textio.specs.Handing.{can_of, kept_abilities, LivesWithBuffer, BeginsDetachIn};
 
@@ -21,7 +23,7 @@ use crate::text_left::TextLeft;
 use crate::written_text::WrittenText;
 use py_flat::{IoFault, Life};
 use py_held_text::{Coder, Wanted};
-use py_plain::{Encoding, Handler, Newlines};
+use py_plain_text::TextIOCookie;
 use py_read_text::{Answer, ReadText, place_of, refusal};
 use py_stream::{BufferedStream, NewRefused};
 use py_text::{Reconfigure, TextSettings};
@@ -143,6 +145,21 @@ impl<B: BufferedStream> AttachedText<B> {
                 self.short = write_would_block(&written);
                 written
             }
+            Life::Live => Err(IoFault::Unsupported),
+            Life::Failed => Err(IoFault::Failed),
+            Life::Closed => Err(IoFault::Closed),
+            Life::Detached => Err(IoFault::Detached),
+        }
+    }
+
+    /// Where it stands.
+    pub fn tell(&mut self) -> Result<TextIOCookie, IoFault>
+        ensures answers { Answers self.old Tell (cookie_reply result) self.new }
+        ensures builds { IfOk result (λ cookie. is_buildable (cookie_shown cookie) ≡ true) }
+    {
+        self.short = false;
+        match self.text.life() {
+            Life::Live if self.text.seekable() => Ok(self.text.tell()),
             Life::Live => Err(IoFault::Unsupported),
             Life::Failed => Err(IoFault::Failed),
             Life::Closed => Err(IoFault::Closed),
@@ -284,32 +301,20 @@ impl<B: BufferedStream> AttachedText<B> {
         }
     }
 
-    /// The encoding of its bytes.
-    pub fn encoding(&self) -> Encoding
-        ensures { result ≡ self.now.text.settings.encoding }
+    /// The encoding of its bytes, and the handler of those that spell no character.
+    pub fn coder(&self) -> Coder
+        ensures encoding { result.encoding ≡ self.now.text.settings.encoding }
+        ensures errors { result.errors ≡ self.now.text.settings.handler }
     {
-        self.text.coder().encoding
+        self.text.coder()
     }
 
-    /// The handler of bytes that spell no character.
-    pub fn errors(&self) -> Handler
-        ensures { result ≡ self.now.text.settings.handler }
+    /// The rule of its line ends, and how many bytes it asks its buffer for at once.
+    pub fn settings(&self) -> TextSettings
+        ensures newline { result.newline ≡ self.now.text.settings.newline }
+        ensures chunk { result.chunk_size ≡ self.now.text.settings.chunk_size }
     {
-        self.text.coder().errors
-    }
-
-    /// The rule of its line ends.
-    pub fn newline(&self) -> Newlines
-        ensures { result ≡ self.now.text.settings.newline }
-    {
-        self.text.settings().newline
-    }
-
-    /// How many bytes it asks its buffer for at once.
-    pub fn chunksize(&self) -> usize
-        ensures { result ≡ self.now.text.settings.chunk_size }
-    {
-        self.text.settings().chunk_size
+        self.text.settings()
     }
 
     /// The buffer, the bytes that it hasn't, with room for as many more as it holds, and the place where they begin.

@@ -12,5 +12,6 @@ mod text_left;
 mod written_text;
 
 pub use laws::no_answer_hangs_on_the_sizes;
+pub use py_plain_text::TextIOCookie;
 pub use text_detached::TextDetached;
 pub use text_io_wrapper::TextIOWrapper;

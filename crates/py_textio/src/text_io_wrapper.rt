@@ -1,14 +1,16 @@
 //! A text over any buffered stream, which has its buffer or, once that was handed back, what is left of the text.
-ghost use Rattle.std.specs.Prelude.{◌≡◌, false, chars, IfOk, IfSome};
+ghost use Rattle.std.specs.Prelude.{◌≡◌, true, false, chars, IfOk, IfSome};
 ghost use Rattle.py_flat.specs.Calls.{Refused};
 ghost use Rattle.py_flat.specs.ExactStep.{is_closed};
-ghost use Rattle.py_plain_text.specs.TextCalls.{Read, ReadLine, WriteText, SetChunkSize, Flush, Close, OtherKind};
+ghost use Rattle.py_plain_text.specs.TextCalls.{Read, ReadLine, WriteText, Tell, SetChunkSize, Flush, Close, OtherKind};
 ghost use Rattle.py_plain_text.specs.TextCalls as text_call;
+ghost use Rattle.py_plain_text.specs.Cookie.{is_buildable};
+ghost use Rattle.py_plain_text.specs.CookieView.{cookie_shown};
 ghost use Rattle.py_text.specs.Settings.{changes_of};
 ghost use Rattle.py_stream.specs.Replies.{count_reply, done_reply};
 ghost use Rattle.py_stream.specs.Writing.{OwesUpTo};
 ghost use Rattle.py_read_text.specs.Opening.{WrapOutcome};
-ghost use Rattle.py_read_text.specs.Answers.{Answers, text_reply};
+ghost use Rattle.py_read_text.specs.Answers.{Answers, text_reply, cookie_reply};
 ghost use Rattle.py_textio.specs.Handing.{DetachOutcome, PartsOutcome, LendsBuffer, HasRoomBehind, BeginsDetach};
 
 use crate::TextDetached;
@@ -17,6 +19,7 @@ use crate::text_left::TextLeft;
 use py_flat::{IoFault, Life};
 use py_held_text::Coder;
 use py_plain::{Encoding, Handler, Newlines};
+use py_plain_text::TextIOCookie;
 use py_stream::{BufferedStream, NewRefused};
 use py_text::{Reconfigure, TextSettings};
 use std::alloc::Global;
@@ -167,6 +170,21 @@ impl<B: BufferedStream> TextIOWrapper<B> {
         }
     }
 
+    /// Where the text stands, as a cookie of 25 bytes that `TextIOCookie::build` gives: the least boundary between characters from which the
+    /// text goes on as it does, or where there is none, inside the characters that stand for one range that its handler replaces. It calls
+    /// no raw, takes no memory and changes nothing.
+    ///
+    /// `Unsupported` where its buffer can't be moved.
+    pub fn tell(&mut self) -> Result<TextIOCookie, IoFault>
+        ensures answers { Answers self.old Tell (cookie_reply result) self.new }
+        ensures builds { IfOk result (λ cookie. is_buildable (cookie_shown cookie) ≡ true) }
+    {
+        match &mut self.attached {
+            Some(text) => text.tell(),
+            None => Err(IoFault::Detached),
+        }
+    }
+
     /// Passes on all that was written: the raw has it then.
     ///
     /// `WouldBlock`: the raw would have blocked before all was passed on; what is left is owed still. `NoMemory` comes only of a raw that
@@ -302,7 +320,7 @@ impl<B: BufferedStream> TextIOWrapper<B> {
         ensures { result ≡ self.now.text.settings.encoding }
     {
         match &self.attached {
-            Some(text) => text.encoding(),
+            Some(text) => text.coder().encoding,
             None => self.left.coder.encoding,
         }
     }
@@ -312,7 +330,7 @@ impl<B: BufferedStream> TextIOWrapper<B> {
         ensures { result ≡ self.now.text.settings.handler }
     {
         match &self.attached {
-            Some(text) => text.errors(),
+            Some(text) => text.coder().errors,
             None => self.left.coder.errors,
         }
     }
@@ -322,7 +340,7 @@ impl<B: BufferedStream> TextIOWrapper<B> {
         ensures { result ≡ self.now.text.settings.newline }
     {
         match &self.attached {
-            Some(text) => text.newline(),
+            Some(text) => text.settings().newline,
             None => self.left.settings.newline,
         }
     }
@@ -332,7 +350,7 @@ impl<B: BufferedStream> TextIOWrapper<B> {
         ensures { result ≡ self.now.text.settings.chunk_size }
     {
         match &self.attached {
-            Some(text) => text.chunksize(),
+            Some(text) => text.settings().chunk_size,
             None => self.left.settings.chunk_size,
         }
     }

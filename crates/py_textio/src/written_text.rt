@@ -13,13 +13,15 @@ ghost use Rattle.py_read_text.specs.Reading.{call_of, asks_none, reply_of, waite
 ghost use Rattle.py_read_text.specs.Owing.{IsJoined, has_line_end};
 ghost use Rattle.py_read_text.specs.Knowing.{over_of as read_of};
 ghost use Rattle.py_read_text.specs.Answers.{Answers};
-ghost use Rattle.py_textio.specs.Written.{over_of, state_of, file_now, place_now, HasRoom, StandsToWrite, SettleOutcome, stopped_reply, with_taken, RoomFor, BackOutcome, PassOutcome, HandOutcome, KeepsOwed, HandsOnOnce};
+ghost use Rattle.py_textio.specs.Written.{over_of, state_of, file_now, place_now, HasRoom, StandsToWrite, SettleOutcome, stopped_reply, with_taken, RoomFor, TellsPlace, BackOutcome, PassOutcome, HandOutcome, KeepsOwed, HandsOnOnce};
 
 use py_flat::{IoFault, Life};
 use py_held_text::{Coder, Wanted, drop_front};
+use py_plain_text::TextIOCookie;
 use py_raw::GREATEST_PLACE;
 use py_read_text::{Answer, ReadText};
 use py_stream::BufferedStream;
+use py_telling::Told;
 use py_text::{Reconfigure, TextSettings, is_of_stream};
 use py_written_text::{WrittenSize, has_line_end, push_written_text, written_size};
 use std::alloc::Global;
@@ -160,6 +162,26 @@ impl<B: BufferedStream> WrittenText<B> {
         ensures { B.shows result.now ≡ self.now.text.buffer }
     {
         self.text.buffer()
+    }
+
+    /// Where the live text stands: one that owes bytes clean behind them. It calls no raw, and takes no memory.
+    pub fn tell(&mut self) -> TextIOCookie
+        requires live { self.old.life ≡ Life.Live }
+        ensures tells { TellsPlace self.old result }
+        ensures joined { IsJoined (over_of self.old) }
+        ensures same { self.new ≡ self.old }
+    {
+        // What holds of every text is known from here on.
+        let _ = &self.life;
+        if self.pending.is_empty() {
+            return self.text.tell().cookie();
+        }
+        let told = Told {
+            start: self.text.at() + self.pending.len() as u64,
+            length: 0,
+            skipped: 0,
+        };
+        told.cookie()
     }
 
     /// Asks for chunks of another size from here on.

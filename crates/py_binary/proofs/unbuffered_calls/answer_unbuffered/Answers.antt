@@ -1,5 +1,5 @@
 use Rattle.std.proofs.Common.{rules}
-use Rattle.py_stream.specs.Replies.{bytes_reply, taken_reply, place_reply, done_reply}
+use Rattle.py_stream.specs.Replies.{bytes_reply, lines_reply, taken_reply, place_reply, done_reply}
 use Rattle.py_calls.specs.Calls.{file_call}
 use Rattle.py_binary.proofs.Answering.{with_said, with_reply_room}
 use Rattle.py_binary.proofs.Alone.{refuses_other, bare_reads_once, bare_looks, bare_reads_into_once}
@@ -20,3 +20,6 @@ returns-in-Write g c = rw c.in-Write.is (with_said _ _ (taken_reply c.write.resu
 
 pub returns-in-Read : goal.returns-in-Read
 returns-in-Read g c = rw c.in-Read.is (with_said _ _ (bytes_reply c.read.result) _ _ c.bytes_reply.ensures c.read.ensures)
+
+pub returns-in-ReadLines : goal.returns-in-ReadLines
+returns-in-ReadLines g c = rw c.in-ReadLines.is (with_said _ _ (lines_reply c.readlines.result) _ _ c.lines_reply.ensures c.readlines.ensures)

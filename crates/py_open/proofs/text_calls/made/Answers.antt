@@ -18,6 +18,9 @@ returns-in-ReadLine g c = rw c.in-ReadLine.is (rw c.text_reply-in-ReadLine.ensur
 pub returns-in-WriteText : goal.returns-in-WriteText
 returns-in-WriteText g c = rw c.in-WriteText.is (rw c.count_reply.ensures (answers_call _ _ _ _ refl (rw (sym c.as_str.ensures) c.write.ensures)))
 
+pub returns-in-Tell : goal.returns-in-Tell
+returns-in-Tell g c = rw c.in-Tell.is (rw c.cookie_reply.ensures (answers_call _ _ _ _ refl c.tell.ensures.answers))
+
 pub returns-in-SetChunkSize : goal.returns-in-SetChunkSize
 returns-in-SetChunkSize g c = rw c.in-SetChunkSize.is (rw c.done_reply.ensures (answers_call _ _ _ _ refl c.set_chunksize.ensures))
 
@@ -50,4 +53,4 @@ returns-in-Errors g c = rw c.in-Errors.is (record {
 pub returns-in_default : goal.returns-in_default
 returns-in_default g c =
     let d = c.in_default in
-    rw (other_kind c.args.call.now d.not-Read d.not-ReadLine d.not-WriteText d.not-SetChunkSize d.not-Flush d.not-Close d.not-ChunkSize d.not-Readable d.not-Writable d.not-Seekable d.not-Closed d.not-Encoding d.not-Errors d.not-Reconfigure d.not-Detach) (answers_call _ _ _ _ refl c.refuse.ensures)
+    rw (other_kind c.args.call.now d.not-Read d.not-ReadLine d.not-WriteText d.not-SetChunkSize d.not-Flush d.not-Close d.not-ChunkSize d.not-Readable d.not-Writable d.not-Seekable d.not-Closed d.not-Encoding d.not-Errors d.not-Reconfigure d.not-Detach d.not-Tell) (answers_call _ _ _ _ refl c.refuse.ensures)

@@ -1,5 +1,8 @@
-use Rattle.py_read_text.proofs.Stopping.{stopped_follows, stopped_before}
+use Rattle.py_read_text.proofs.Stopping.{stops, stopped_follows, stopped_before}
 use Rattle.py_read_text.proofs.looking.stopped.Goals as goal
+
+pub release-requires : goal.release-requires
+release-requires c = record { stops = stops c.args.last _ c.args.start c.args.end c.requires.range c.requires.ended }
 
 pub returns-in-Some-clause-follows : goal.returns-in-Some-clause-follows
 returns-in-Some-clause-follows c = stopped_follows c.args.last _ _ c.args.start c.args.end c.requires.range c.in_ok-release.ensures.released

@@ -13,6 +13,7 @@ returns c = record {
   lines = refl;
   count = refl;
   place = refl;
+  cookie = refl;
   done = refl;
   flag = refl;
   name = refl;

@@ -1,13 +1,15 @@
-use Rattle.std.proofs.Common.{◌≡◌, ◌+◌, ◌-◌, ◌≤◌, List, ℕ, Result, Ok, Option, Some, None, Bool, true, length, take, drop, vec_len, vec_capacity, refl, sym, ap, subst, ◌∙◌, arith}
+use Rattle.std.proofs.Common.{◌≡◌, ◌+◌, ◌-◌, ◌≤◌, Result, Ok, Option, Some, None, Bool, true, length, take, drop, vec_len, vec_capacity, refl, sym, ap, subst, ◌∙◌, arith}
 use Rattle.std.proofs.lemmas.List.{length-drop, length-take, drop-drop}
 use Rattle.py_flat.specs.declared.fault.IoFault.{IoFault}
 use Rattle.py_held_text.specs.declared.held_stop.HeldStop.{HeldStop}
 use Rattle.py_held_text.specs.declared.held_stop.HeldStop.TheVariants as stop
-use Rattle.py_held_text.specs.Held.{HeldView, back_of, mark_by}
+use Rattle.py_held_text.specs.Held.{HeldView, view_of, back_of, mark_by}
+use Rattle.py_held_text.specs.Known.{KnownView}
 use Rattle.py_held_text.specs.Decodes.{PartOutcome}
 use Rattle.py_held_text.proofs.Decoded.{part-all, lacks-drained, lacks-refused, lacks-none}
-use Rattle.py_held_text.proofs.Backing.{back-more, back-length, held-more}
-use Rattle.py_held_text.proofs.Holding.{refused-within, held-by, marked-by, decodes-by, drained-by, refuses-by, all-of}
+use Rattle.py_held_text.proofs.Backing.{back-length, held-more}
+use Rattle.py_held_text.proofs.Keeping.{moves-by, keeps-decoded, walked-known, kept-known}
+use Rattle.py_held_text.proofs.Holding.{refused-within, marked-by, drained-by, refuses-by, all-of}
 use Rattle.py_held_text.proofs.held_text.HeldText.decode_part.Goals.{in-Refused, in-Drained+then-is_all, in-Drained+else-is_all, in-Wanted}
 use Rattle.py_held_text.proofs.held_text.HeldText.decode_part.Goals as goal
 
@@ -21,13 +23,27 @@ overflow_add-result-in-Refused c =
     let range = refused-within c.self.inside.coder c.args.last c.args.want (take c.args.size c.behind-bytes.result.now) c.in_ok-front.front c.in-Refused.start c.in-Refused.end c.in_ok-front.ensures.part c.in-Refused.is in
     omega (arith, range.0, range.1, c.self.invariant.1.within, c.self.invariant.1.near, length-take c.args.size c.behind-bytes.result.now, ap length c.behind-bytes.ensures, length-drop c.self.inside.decoded c.deref.result.now, c.deref.ensures.len)
 
+pub invariant_of-self : goal.invariant_of-self
+invariant_of-self c =
+    let inside = c.self.inside in
+    kept-known inside.coder inside.known c.decode.new.self inside.gone inside.decoded (vec_len inside.bytes) inside.bytes.items inside.given inside.mark inside.ended inside.place inside.walked c.in_err-front.ensures.same c.self.invariant
+
 pub invariant_of-self-2 : goal.invariant_of-self-2
 invariant_of-self-2 c =
     let inside = c.self.inside in
     let bytes = c.behind-bytes.result.now in
     let used = c.in_ok-front.front.used in
-    let within : inside.decoded + used ≤ vec_len inside.bytes = omega (arith, c.in_ok-front.ensures.within, c.self.invariant.1.within, length-take c.args.size bytes, ap length c.behind-bytes.ensures, length-drop inside.decoded c.deref.result.now, c.deref.ensures.len) in (
-      c.self.invariant.0,
+    let within : inside.decoded + used ≤ vec_len inside.bytes = omega (arith, c.in_ok-front.ensures.within, c.self.invariant.1.within, length-take c.args.size bytes, ap length c.behind-bytes.ensures, length-drop inside.decoded c.deref.result.now, c.deref.ensures.len) in
+    let bytes_are : bytes ≡ drop inside.decoded inside.bytes.items = c.behind-bytes.ensures ∙ ap (drop inside.decoded) c.deref.ensures.value in
+    let now_is : c.next_mark-mark.result ≡ marked-by inside.mark inside.known (back_of inside.gone inside.decoded inside.bytes.items) = c.next_mark-mark.ensures ∙ rw (c.holds_cr.ensures, c.len.ensures, back-length inside.gone inside.decoded inside.bytes.items c.self.invariant.1.from (omega (arith, c.self.invariant.1.within, inside.bytes.ok))) refl in
+    let seen : c.args.self.now.bytes ≡ bytes = ap (λ (held : HeldView). held.bytes) (sym c.self.view_is) ∙ sym bytes_are in
+    let all : c.args.last ≡ true → c.args.size ≡ length bytes = λ last. c.requires.all last ∙ ap length seen in
+    let moves = moves-by inside.coder inside.known c.decode.new.self inside.gone inside.decoded inside.given inside.mark c.next_mark-mark.result inside.ended c.is_ended-ended.result inside.bytes.items bytes c.args.size inside.place 0 c.args.want c.args.last c.in_ok-front.front c.self.invariant.0.0 all c.in_ok-front.ensures.part c.in_ok-front.ensures.reading c.in_ok-front.ensures.within c.self.invariant.1.from bytes_are now_is c.is_ended-ended.ensures in (
+      (
+        c.self.invariant.0.0,
+        keeps-decoded c.args.last _ _ c.self.invariant.0.0 moves c.self.invariant.0.1,
+        walked-known inside.coder inside.known c.decode.new.self inside.gone inside.given inside.bytes.items inside.walked (ap (λ (known : KnownView). known.newline) c.in_ok-front.ensures.reading) c.self.invariant.0.2,
+      ),
       held-more inside.known c.decode.new.self _ inside.mark c.next_mark-mark.result (vec_len inside.bytes) inside.gone inside.decoded used inside.place inside.given _ _ c.self.invariant.1 c.in_ok-front.ensures.reading (omega (arith, c.in_ok-front.ensures.part.few, c.in_ok-front.ensures.part.chars)) within (c.next_mark-mark.ensures ∙ ap (λ (cr : Bool). mark_by inside.mark cr c.len.result (inside.decoded - inside.gone)) c.holds_cr.ensures) c.len.ensures refl,
     )
 
@@ -44,7 +60,8 @@ returns c =
     let gone = c.self.inside.gone in
     let given = c.self.inside.given in
     let mark = c.self.inside.mark in
-    let back = back_of gone from items in
+    let ended = c.self.inside.ended in
+    let ended_now = c.is_ended-ended.result in
     let back_now = back_of gone (from + decoded.used) items in
     let part = c.in_ok-front.ensures.part in
     let within : decoded.used ≤ length (take c.args.size bytes) = c.in_ok-front.ensures.within in
@@ -52,20 +69,19 @@ returns c =
     let place = c.self.inside.place in
     let bytes_are : bytes ≡ drop from items = c.behind-bytes.ensures ∙ ap (drop from) c.deref.ensures.value in
     let rest_is : rest ≡ drop decoded.used bytes = sym (drop-drop decoded.used from items) ∙ ap (drop decoded.used) (sym bytes_are) in
-    let back_is = back-more gone from decoded.used items bytes c.self.invariant.1.from bytes_are in
     let now = c.next_mark-mark.result in
-    let now_is : now ≡ marked-by mark known back = c.next_mark-mark.ensures ∙ rw (c.holds_cr.ensures, c.len.ensures, back-length gone from items c.self.invariant.1.from (omega (arith, c.self.invariant.1.within, c.self.inside.bytes.ok))) refl in
+    let now_is : now ≡ marked-by mark known (back_of gone from items) = c.next_mark-mark.ensures ∙ rw (c.holds_cr.ensures, c.len.ensures, back-length gone from items c.self.invariant.1.from (omega (arith, c.self.invariant.1.within, c.self.inside.bytes.ok))) refl in
     let seen : c.args.self.now.bytes ≡ bytes = ap (λ (held : HeldView). held.bytes) (sym c.self.view_is) ∙ sym bytes_are in
     let all : c.args.last ≡ true → c.args.size ≡ length bytes = λ last. c.requires.all last ∙ ap length seen in
-    let new : HeldView = held-by coder after back_now given now rest (place + decoded.used) room in
-    let moves = decodes-by coder known after back back_now given mark now bytes rest c.args.size place room room c.args.want c.args.last decoded c.self.invariant.0 all part c.in_ok-front.ensures.reading within rest_is back_is now_is (omega arith) in
-    let shown : (result : Result (Option HeldStop) IoFault) → PartOutcome c.args.last c.args.size c.args.want (held-by coder known back given mark bytes place room) result new → PartOutcome c.args.last c.args.size c.args.want c.args.self.now result new = λ result outcome.
-    subst (λ (old : HeldView). PartOutcome c.args.last c.args.size c.args.want old result new) (ap (λ (b : List ℕ). held-by coder known back given mark b place room) bytes_are ∙ c.self.view_is) outcome in
+    let new : HeldView = view_of coder after gone (from + decoded.used) items given now ended_now (place + decoded.used) room in
+    let moves = moves-by coder known after gone from given mark now ended ended_now items bytes c.args.size place room c.args.want c.args.last decoded c.self.invariant.0.0 all part c.in_ok-front.ensures.reading within c.self.invariant.1.from bytes_are now_is c.is_ended-ended.ensures in
+    let shown : (result : Result (Option HeldStop) IoFault) → PartOutcome c.args.last c.args.size c.args.want (view_of coder known gone from items given mark ended place room) result new → PartOutcome c.args.last c.args.size c.args.want c.args.self.now result new = λ result outcome.
+    subst (λ (old : HeldView). PartOutcome c.args.last c.args.size c.args.want old result new) c.self.view_is outcome in
     elim c.match-front.branch [
       | in-Refused w ↦ subst (λ (result : Result (Option HeldStop) IoFault). PartOutcome c.args.last c.args.size c.args.want c.args.self.now result new) (sym w.result-is)
           (shown (Ok (Some (stop.Refused (place + w.in-Refused.start) (place + w.in-Refused.end)))) (
             moves,
-            refuses-by coder after back_now given now bytes rest c.args.size place room c.args.want c.args.last decoded w.in-Refused.start w.in-Refused.end c.self.invariant.0 all part (part-all c.args.want _ _ decoded part (lacks-refused _ _ w.in-Refused.start w.in-Refused.end (sym part.stop ∙ w.in-Refused.is))) within rest_is w.in-Refused.is,
+            refuses-by coder after back_now given now ended_now bytes rest c.args.size place room c.args.want c.args.last decoded w.in-Refused.start w.in-Refused.end c.self.invariant.0.0 all part (part-all c.args.want _ _ decoded part (lacks-refused _ _ w.in-Refused.start w.in-Refused.end (sym part.stop ∙ w.in-Refused.is))) within rest_is w.in-Refused.is,
           ))
       | in-Drained+then-is_all w ↦
           let is : c.args.size ≡ length bytes = w.if-is_all.true in
@@ -73,17 +89,17 @@ returns c =
           (shown (Ok (Some stop.Drained)) (
             moves,
             (let whole = all-of coder c.args.last c.args.want bytes c.args.size decoded is part in
-                drained-by coder after back_now given now bytes rest place room c.args.want c.args.last decoded whole (part-all c.args.want _ _ decoded whole (lacks-drained _ _ (sym part.stop ∙ w.in-Drained.is))) (omega (arith, within, length-take c.args.size bytes)) rest_is w.in-Drained.is),
+                drained-by coder after back_now given now ended_now bytes rest place room c.args.want c.args.last decoded whole (part-all c.args.want _ _ decoded whole (lacks-drained _ _ (sym part.stop ∙ w.in-Drained.is))) (omega (arith, within, length-take c.args.size bytes)) rest_is w.in-Drained.is),
           ))
       | in-Drained+else-is_all w ↦ subst (λ (result : Result (Option HeldStop) IoFault). PartOutcome c.args.last c.args.size c.args.want c.args.self.now result new) (sym w.result-is)
-          (shown (Ok None) (moves, λ is. absurd (w.if-is_all.false is)))
+          (shown (Ok None) (moves, λ is. absurd (w.if-is_all.false (is ∙ sym (ap length bytes_are)))))
       | in-Wanted w ↦ subst (λ (result : Result (Option HeldStop) IoFault). PartOutcome c.args.last c.args.size c.args.want c.args.self.now result new) (sym w.result-is)
           (shown (Ok None) (
             moves,
             λ is.
                 let none = lacks-none _ _ (sym part.stop ∙ w.in-Wanted.is) in
                 record {
-                  some = omega (arith, none, c.requires.some, part.few, within, length-take c.args.size bytes, ap length rest_is, length-drop decoded.used bytes);
+                  some = omega (arith, none, c.requires.some, part.few, within, length-take c.args.size bytes, ap length rest_is, ap length bytes_are, length-drop decoded.used bytes);
                   fits = omega (arith, none, part.fits);
                 },
           ))

@@ -1,0 +1,13 @@
+use Rattle.std.proofs.Common.{refl}
+use Rattle.py_plain_text.specs.TextCalls.{Tell}
+use Rattle.py_read_text.specs.TextState.{settings_of}
+use Rattle.py_textio.specs.Handing.{can_of}
+use Rattle.py_textio.proofs.Detached.{detached_answers}
+use Rattle.py_textio.proofs.text_io_wrapper.TextIOWrapper.tell.Goals as goal
+use Rattle.py_textio.proofs.text_io_wrapper.TextIOWrapper.tell.Goals.{in-Some, in-None}
+
+pub returns-clause-answers : goal.returns-clause-answers
+returns-clause-answers g c = elim c.match-self.branch [
+  | in-Some w ↦ rw (← c.self.view_is, w.in-Some.is, w.result-is, w.self-inside-is) w.tell.ensures.answers
+  | in-None w ↦ rw (← c.self.view_is, w.result-is, w.self-inside-is, w.in-None.is) (detached_answers (can_of c.self.inside.left) (settings_of c.self.inside.left.coder c.self.inside.left.settings) Tell refl)
+]
