@@ -1,6 +1,6 @@
 -- What std's traits know of a stream, where it tells its bytes.
-use Rattle.std.specs.Prelude.{◌≡◌, ℕ, ◌<◌, Bool, true, false, List, [], length, take, Option, Some, None, Result, Ok, Err, IfOk, IfErr}
-use Rattle.std.specs.Io.KnownBytes.{Keeps, Consumes, IsAtEnd}
+use Rattle.std.specs.Prelude.{◌≡◌, ℕ, ◌<◌, Bool, true, false, List, [], length, take, drop, Option, Some, None, Result, Ok, Err, IfOk, IfErr}
+use Rattle.std.specs.Io.KnownBytes.{Keeps, Appends, Consumes, IsAtEnd}
 use Rattle.py_flat.specs.declared.fault.IoFault.{IoFault}
 use Rattle.py_flat.specs.Bytes.{filled_to}
 use Rattle.py_flat.specs.Calls.{FileReply, Bytes, ReadInto1}
@@ -35,6 +35,21 @@ written_in buffer = if_told (tells buffer.raw) (filled_to (flat_of buffer).bytes
 abbrev pub GivesNext : Option (List ℕ) → ℕ → FileReply → Option (List ℕ) → Type 0
 GivesNext before size (Bytes part) after = Consumes before after part × (part ≡ [] → 0 < size → IsAtEnd after)
 GivesNext before size reply after = Keeps before after
+
+-- Readings and writes of all that was asked for, which an error may end.
+
+-- some front of what was asked for was given, not all of it: it stands at the front of the buffer, and what the buffer has after it stays
+pub record GivesFront (before : Option (List ℕ)) (old new : List ℕ) (after : Option (List ℕ)) : Type 0 where
+  pub count : ℕ
+  pub within : count < length old
+  pub gave : Consumes before after (take count new)
+  pub behind : drop count new ≡ drop count old
+
+-- some front of the bytes was taken, not all of them
+pub record TakesFront (before : Option (List ℕ)) (own : List ℕ) (after : Option (List ℕ)) : Type 0 where
+  pub count : ℕ
+  pub within : count < length own
+  pub took : Appends before after (take count own)
 
 -- A stream in memory lends all that is left.
 

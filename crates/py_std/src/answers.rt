@@ -1,8 +1,42 @@
 //! What a stream answers, as std's traits do.
-ghost use Rattle.py_std.specs.Answers.{Says, SaysRead, SaysWritten, SaysMoved, IsntInterrupted};
+ghost use Rattle.std.specs.Prelude.{◌≡◌, ◌≢◌, Err};
+ghost use Rattle.std.specs.IoError.{error_kind};
+ghost use Rattle.std.specs.declared.io.ErrorKind.TheVariants as kind;
+ghost use Rattle.py_flat.specs.Conversions.{kind_of};
+ghost use Rattle.py_std.specs.Answers.{Says, SaysWritten, SaysMoved, IsntInterrupted};
 
 use py_flat::IoFault;
 use std::io;
+
+/// The error of a refusal.
+#[inline(never)]
+pub(crate) fn io_refused(fault: IoFault) -> io::Error
+    ensures says { error_kind result ≡ kind_of fault }
+    ensures retried { error_kind result ≢ kind.Interrupted }
+{
+    io::Error::from(fault)
+}
+
+/// The error of a call before which the raw would have blocked.
+pub(crate) fn io_would_block() -> io::Error
+    ensures { error_kind result ≡ kind.WouldBlock }
+{
+    io::Error::from(io::ErrorKind::WouldBlock)
+}
+
+/// The error of a reading that filled less than was asked for, since nothing is left.
+pub(crate) fn io_ended() -> io::Error
+    ensures { error_kind result ≡ kind.UnexpectedEof }
+{
+    io::Error::new(io::ErrorKind::UnexpectedEof, "failed to fill whole buffer")
+}
+
+/// The error of a write that took nothing, though it was given some bytes.
+pub(crate) fn io_took_none() -> io::Error
+    ensures { error_kind result ≡ kind.WriteZero }
+{
+    io::Error::new(io::ErrorKind::WriteZero, "failed to write whole buffer")
+}
 
 /// An answer of a stream, or the error of its refusal.
 pub(crate) fn io_result<A>(came: Result<A, IoFault>) -> io::Result<A>
@@ -11,36 +45,19 @@ pub(crate) fn io_result<A>(came: Result<A, IoFault>) -> io::Result<A>
 {
     match came {
         Ok(value) => Ok(value),
-        Err(fault) => Err(io::Error::from(fault)),
+        Err(fault) => Err(io_refused(fault)),
     }
 }
 
-/// How many bytes a reading gave: where the raw would have blocked before any, that is the error.
-pub(crate) fn io_count_read(came: Result<Option<usize>, IoFault>) -> io::Result<usize>
-    ensures says { SaysRead came result }
+/// How many bytes a write took that was refused once it took some, or the error of its refusal.
+pub(crate) fn io_refused_write(fault: IoFault, taken: u64) -> io::Result<usize>
+    ensures says { SaysWritten (Err fault) taken result }
     ensures retried { IsntInterrupted result }
 {
-    match came {
-        Ok(Some(count)) => Ok(count),
-        Ok(None) => Err(io::Error::from(IoFault::WouldBlock { taken: 0 })),
-        Err(fault) => Err(io::Error::from(fault)),
+    if taken == 0 {
+        return Err(io_refused(fault));
     }
-}
-
-/// How many bytes a write took, also one that was refused once it took some.
-pub(crate) fn io_count_written(came: Result<usize, IoFault>, taken: u64) -> io::Result<usize>
-    ensures says { SaysWritten came taken result }
-    ensures retried { IsntInterrupted result }
-{
-    match came {
-        Ok(count) => Ok(count),
-        Err(fault) => {
-            if taken == 0 {
-                return Err(io::Error::from(fault));
-            }
-            Ok(taken as usize)
-        }
-    }
+    Ok(taken as usize)
 }
 
 /// An answer of a seek, without the place.
@@ -50,7 +67,7 @@ pub(crate) fn io_moved(came: Result<u64, IoFault>) -> io::Result<()>
 {
     match came {
         Ok(_) => Ok(()),
-        Err(fault) => Err(io::Error::from(fault)),
+        Err(fault) => Err(io_refused(fault)),
     }
 }
 
@@ -60,7 +77,7 @@ pub(crate) fn io_past_all(came: Result<u64, IoFault>) -> io::Result<u64>
     ensures retried { IsntInterrupted result }
 {
     match came {
-        Err(IoFault::NegativeSeek) => Err(io::Error::from(IoFault::TooFar)),
+        Err(IoFault::NegativeSeek) => Err(io_refused(IoFault::TooFar)),
         came => io_result(came),
     }
 }

@@ -1,7 +1,10 @@
 //! A stream as a reader, a writer and a seeker of std's.
 ghost use Rattle.std.specs.Prelude.{◌≡◌};
 
-use crate::answers::{io_count_read, io_count_written, io_moved, io_past_all, io_result};
+use crate::answers::{
+    io_ended, io_moved, io_past_all, io_refused, io_refused_write, io_result, io_took_none,
+    io_would_block,
+};
 use crate::{LendHeld, ReadOnce};
 use py_flat::IoFault;
 use py_stream::BufferedStream;
@@ -53,10 +56,11 @@ impl<S> StdStream<S> {
 
 /// As the stream's `readinto1`: some of the next bytes, by at most one transfer.
 impl<S: ReadOnce> Read for StdStream<S> {
-    ghost use Rattle.std.specs.Prelude.{length};
+    ghost use Rattle.std.specs.Prelude.{length, OnOk, IfErr};
     ghost use Rattle.std.specs.Io.{ReadsAtMost};
-    ghost use Rattle.std.specs.Io.KnownBytes.{ReadConsumes};
+    ghost use Rattle.std.specs.Io.KnownBytes.{Consumes, ReadConsumes};
     ghost use Rattle.py_stream.specs.Replies.{into_reply};
+    ghost use Rattle.py_std.specs.Known.{GivesFront};
     ghost use Rattle.py_std.specs.Answers.{AnsweredBy, SaysRead, LeavesBehind, IsntInterrupted};
 
     ghost remaining = { λ stream. S.left stream };
@@ -66,6 +70,7 @@ impl<S: ReadOnce> Read for StdStream<S> {
     ///
     /// `WouldBlock`: the raw would have blocked before any byte. Every other error is that of a refusal of `readinto1`. They leave `buf`
     /// and what is left as they were.
+    #[inline(always)]
     fn read(&mut self, buf: &mut [u8]) -> io::Result<usize>
         ensures bound { ReadsAtMost result buf.new }
         ensures bytes { ReadConsumes (S.left self.old) (S.left self.new) result buf.new }
@@ -73,8 +78,31 @@ impl<S: ReadOnce> Read for StdStream<S> {
         ensures behind { LeavesBehind result buf.old buf.new }
         ensures retried { IsntInterrupted result }
     {
-        let came = self.stream.read_once(buf);
-        io_count_read(came)
+        match self.stream.read_once(buf) {
+            Ok(Some(count)) => Ok(count),
+            Ok(None) => Err(io_would_block()),
+            Err(fault) => Err(io_refused(fault)),
+        }
+    }
+
+    /// Fills `buf` with the next bytes, by as many readings as that takes. `UnexpectedEof`: fewer are left.
+    ///
+    /// Every other error is one of `read`. Those bytes that came before an error stand at the front of `buf`, and aren't left; how many
+    /// they are isn't told, as of std's own: where that matters, `read`.
+    fn read_exact(&mut self, buf: &mut [u8]) -> io::Result<()>
+        ensures bytes { OnOk result (Consumes (S.left self.old) (S.left self.new) buf.new) }
+        ensures part { IfErr result (λ error. GivesFront (S.left self.old) buf.old buf.new (S.left self.new)) }
+        ensures retried { IsntInterrupted result }
+    {
+        let mut at = 0;
+        while at < buf.len() {
+            let count = self.read(&mut buf[at..])?;
+            if count == 0 {
+                return Err(io_ended());
+            }
+            at += count;
+        }
+        Ok(())
     }
 }
 
@@ -94,6 +122,7 @@ impl<S: LendHeld> BufRead for StdStream<S> {
     ///
     /// `WouldBlock`: the raw would have blocked before any byte. Every other error is that of a refusal of the stream's `peek`. They leave
     /// what is left as it was.
+    #[inline(always)]
     fn fill_buf(&mut self) -> io::Result<&[u8]>
         ensures front { IfSome (S.left self.old) (λ xs. IfOk result (λ lent. StartsWith xs lent.now)) }
         ensures end { IfSome (S.left self.old) (λ xs. IfOk result (λ lent. length lent.now ≡ 0 → xs ≡ [])) }
@@ -102,8 +131,8 @@ impl<S: LendHeld> BufRead for StdStream<S> {
     {
         match self.stream.fill() {
             Ok(true) => Ok(self.stream.held()),
-            Ok(false) => Err(io::Error::from(IoFault::WouldBlock { taken: 0 })),
-            Err(fault) => Err(io::Error::from(fault)),
+            Ok(false) => Err(io_would_block()),
+            Err(fault) => Err(io_refused(fault)),
         }
     }
 
@@ -119,12 +148,13 @@ impl<S: LendHeld> BufRead for StdStream<S> {
 
 /// As the stream's `write` and `flush`.
 impl<S: BufferedStream> Write for StdStream<S> {
+    ghost use Rattle.std.specs.Prelude.{OnOk, IfErr};
     ghost use Rattle.std.specs.Io.{WritesAtMost};
-    ghost use Rattle.std.specs.Io.KnownBytes.{Keeps, WriteAppends};
+    ghost use Rattle.std.specs.Io.KnownBytes.{Keeps, Appends, WriteAppends};
     ghost use Rattle.py_flat.specs.Calls.{Write as WriteCall, Flush};
     ghost use Rattle.py_stream.specs.Replies.{count_reply, done_reply};
     ghost use Rattle.py_stream.specs.Buffer.{AnswersAsBuffer};
-    ghost use Rattle.py_std.specs.Known.{written_in};
+    ghost use Rattle.py_std.specs.Known.{written_in, TakesFront};
     ghost use Rattle.py_std.specs.Answers.{AnsweredBy, Says, SaysWritten, IsntInterrupted};
 
     ghost contents = { λ stream. written_in (S.shows stream) };
@@ -133,14 +163,37 @@ impl<S: BufferedStream> Write for StdStream<S> {
     ///
     /// An error took none: `WouldBlock` where the raw would have blocked, else that of a refusal of the stream's `write`. What went wrong
     /// after some bytes the next call tells, as std has it: where the raw failed, that the stream did.
+    #[inline(always)]
     fn write(&mut self, buf: &[u8]) -> io::Result<usize>
         ensures bound { WritesAtMost result buf.now }
         ensures bytes { WriteAppends (written_in (S.shows self.old)) (written_in (S.shows self.new)) result buf.now }
         ensures answers { AnsweredBy (λ came. AnswersAsBuffer (S.shows self.old) (WriteCall buf.now) (count_reply came) (S.shows self.new)) (λ came. SaysWritten came (S.shows self.new).taken result) }
         ensures retried { IsntInterrupted result }
     {
-        let came = self.stream.write(buf);
-        io_count_written(came, self.stream.taken())
+        match self.stream.write(buf) {
+            Ok(count) => Ok(count),
+            Err(fault) => io_refused_write(fault, self.stream.taken()),
+        }
+    }
+
+    /// Takes all of `buf`, by as many writes as that takes.
+    ///
+    /// Every error is one of `write`, but for `WriteZero`, where a write took nothing and said so. Some of the bytes may be taken then; how
+    /// many isn't told, as of std's own: where that matters, `write`.
+    fn write_all(&mut self, buf: &[u8]) -> io::Result<()>
+        ensures bytes { OnOk result (Appends (written_in (S.shows self.old)) (written_in (S.shows self.new)) buf.now) }
+        ensures part { IfErr result (λ error. TakesFront (written_in (S.shows self.old)) buf.now (written_in (S.shows self.new))) }
+        ensures retried { IsntInterrupted result }
+    {
+        let mut rest = buf;
+        while !rest.is_empty() {
+            let count = self.write(rest)?;
+            if count == 0 {
+                return Err(io_took_none());
+            }
+            rest = &rest[count..];
+        }
+        Ok(())
     }
 
     /// Passes on what the stream owes.

@@ -26,7 +26,10 @@ fn lent_formatted(alloc: Global, text: &mut TextIOWrapper<BytesIO>) -> Result<Ve
     let mut writer = FmtWriter::new(alloc, text);
     let number = 12;
     if write!(writer, "caf\u{E9}: {number}\n").is_err() {
-        return Err(writer.fault().unwrap_or(IoFault::BadArgument)); // without a fault a value's own `fmt` failed
+        return Err(match writer.fault() {
+            None | Some(IoFault::WouldBlock { taken: _ }) => IoFault::BadArgument, // the text took each piece: a value's own `fmt` failed
+            Some(refusal) => refusal,
+        });
     }
     text.flush()?;
     match text.buffer() {

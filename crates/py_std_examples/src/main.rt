@@ -2,6 +2,7 @@
 #![tactic(auto)]
 
 mod coded;
+mod faults;
 mod formatting;
 mod lines;
 mod places;
@@ -25,9 +26,12 @@ fn main(rt: HostRuntime) -> Result<()> {
     print(&rt, waits::written_over_waits(alloc))?;
     print(&rt, places::replaced(alloc))?;
     print(&rt, places::refused(alloc))?;
+    print(&rt, faults::failed(alloc))?;
+    print(&rt, faults::waited(alloc))?;
     print(&rt, places::pieces(alloc))?;
     print(&rt, coded::numbers(alloc))?;
     print(&rt, coded::decoded(alloc))?;
+    print(&rt, coded::hashed(alloc))?;
     print(&rt, lines::dropped(alloc))?;
     print(&rt, lines::of_random(alloc))?;
     print(&rt, lines::of_text(alloc))?;

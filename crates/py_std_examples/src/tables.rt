@@ -84,12 +84,19 @@ fn written(alloc: Global, rows: &[ByteRecord]) -> Result<String> {
     }
 }
 
+/// Copies all that a reader has left to a writer, which passes it on.
+fn copy_all<R: Read, W: Write>(reader: &mut R, writer: &mut W) -> io::Result<u64> {
+    let count = io::copy(reader, writer)?;
+    writer.flush()?;
+    Ok(count)
+}
+
 /// The table is copied by std from one stream to the other.
 pub(crate) fn moved(alloc: Global) -> Result<String> {
     let mut reader = table_reader(alloc)?;
     let mut writer = table_writer(alloc)?;
-    let count = io::copy(&mut reader, &mut writer);
-    shown_copy(alloc, count)
+    let count = copy_all(&mut reader, &mut writer);
+    shown_copy(alloc, count, is_table(writer.stream().raw()))
 }
 
 /// A stream of the table, over a raw that would have blocked after each byte.
@@ -144,18 +151,23 @@ fn is_record(row: &ByteRecord, name: &[u8], count: &[u8]) -> bool {
     row.len() == 2 && row.get(0) == Some(name) && row.get(1) == Some(count)
 }
 
-/// How many bytes were copied.
-fn shown_copy(alloc: Global, count: io::Result<u64>) -> Result<String> {
+/// Whether what a raw has is the table.
+fn is_table(raw: Option<&MemRaw>) -> bool {
+    match raw {
+        Some(raw) => raw.bytes_of() == TABLE,
+        None => false,
+    }
+}
+
+/// How many bytes were copied, and whether what the writer's raw has then is the table.
+fn shown_copy(alloc: Global, count: io::Result<u64>, same: bool) -> Result<String> {
     let count = count?;
-    Ok(format!(in alloc; "copied: {count} bytes")?)
+    Ok(format!(in alloc; "copied: {count} bytes, the same bytes: {same}")?)
 }
 
 /// How many records there are, and whether what a writer's raw has then is the table.
 fn shown(alloc: Global, count: usize, mut writer: BufferedWriter<MemRaw>) -> Result<String> {
     let closed = writer.close().is_ok();
-    let same = match writer.raw() {
-        Some(raw) => raw.bytes_of() == TABLE,
-        None => false,
-    };
+    let same = is_table(writer.raw());
     Ok(format!(in alloc; "table: {count} records, closed: {closed}, the same bytes: {same}")?)
 }
