@@ -44,6 +44,7 @@ pub(crate) fn answer(alloc: Global, text: &mut PlainText, call: &Call) -> Reply 
     let answer = match call {
         Call::Read(size) => text.read(alloc, *size).map(Reply::Text),
         Call::ReadLine(limit) => text.readline(alloc, *limit).map(Reply::Text),
+        Call::Tell => text.tell(alloc).map(Reply::Cookie),
         Call::Close => text.close().map(|()| Reply::Done),
         _ => Err(IoFault::Unsupported),
     };

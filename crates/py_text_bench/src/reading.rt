@@ -13,10 +13,12 @@ pub(crate) enum Reading {
     Whole,
     Lines,
     Pieces,
+    /// Lines, and after each of them where the text stands.
+    Told,
 }
 
 impl Reading {
-    /// Reads to the end, and counts the answers that aren't empty, and their bytes.
+    /// Reads to the end, and counts the answers that aren't empty, and their bytes; where it is told, the places.
     pub(crate) fn run<B: BufferedStream>(
         self,
         alloc: Global,
@@ -26,7 +28,7 @@ impl Reading {
         for _ in 0..u64::MAX {
             let answer = match self {
                 Reading::Whole => text.read(alloc, None)?,
-                Reading::Lines => text.readline(alloc, None)?,
+                Reading::Lines | Reading::Told => text.readline(alloc, None)?,
                 Reading::Pieces => text.read(alloc, Some(PIECE))?,
             };
             let Some(answer) = answer else {
@@ -35,7 +37,10 @@ impl Reading {
             if answer.is_empty() {
                 break;
             }
-            counts.add(answer.len());
+            counts.add(match self {
+                Reading::Told => text.tell()?.start_pos.unsigned_abs() as usize,
+                _ => answer.len(),
+            });
         }
         Ok(counts)
     }

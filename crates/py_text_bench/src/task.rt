@@ -17,6 +17,7 @@ impl Task {
             // One line that is the whole file is read as lines are.
             "lines" | "long" => Some(Task::Reads(Reading::Lines)),
             "pieces" => Some(Task::Reads(Reading::Pieces)),
+            "told" => Some(Task::Reads(Reading::Told)),
             "writes-ascii" => Some(Task::Writes(Writing::AsciiLines)),
             "writes-mixed" => Some(Task::Writes(Writing::MixedLines)),
             "writes-ascii-crlf" => Some(Task::Writes(Writing::AsciiCrlf)),

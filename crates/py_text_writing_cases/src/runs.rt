@@ -30,6 +30,8 @@ pub(crate) enum End {
     Flushed,
     /// It is closed before.
     Closed,
+    /// It is handed over by a detach, of a text that failed too.
+    Detached,
 }
 
 /// Which stream a text is over.
@@ -70,7 +72,7 @@ const WRITING: [Handler; 6] = [
     Handler::XmlCharRefReplace,
 ];
 
-const ENDS: [End; 3] = [End::Apart, End::Flushed, End::Closed];
+const ENDS: [End; 4] = [End::Apart, End::Flushed, End::Closed, End::Detached];
 
 /// A run by its number of 18: a raw that moves a byte at a time, and one that moves all.
 fn by_sizes(number: usize) -> Run {
@@ -157,9 +159,18 @@ impl Sweep {
     pub fn handlers(self) -> &'static [Handler] {
         match self {
             Sweep::Read => &HANDLERS,
-            Sweep::Sessions => &[Handler::Strict],
             _ => &WRITING,
         }
+    }
+
+    /// Whether it has a run of a number by a handler, of texts of a turn. Sessions by another one than strict have a fifth of their runs,
+    /// texts of other turns others, and none that reads by a handler that no text is read by.
+    pub fn has(self, number: usize, turn: usize, handler: Handler) -> bool {
+        if self != Sweep::Sessions || handler == Handler::Strict {
+            return true;
+        }
+        let is_read = self.over(number).reads();
+        number.wrapping_add(turn) % 5 == 0 && (!is_read || handler.reads_texts())
     }
 
     /// A run by its number. Texts of other turns have other ends and readings.

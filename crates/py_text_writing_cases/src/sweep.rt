@@ -4,9 +4,10 @@ ghost use Rattle.py_raw_memory.specs.MemRaw.{shown as raw_shown};
 ghost use Rattle.py_stream.specs.Opening.{StandsAtStart};
 
 use crate::flat::Flat;
+use crate::handed_over::HandsOver;
 use crate::pieces::{Piece, SAMPLES, pieces_of};
 use crate::runs::{End, Over, Run, Sweep};
-use crate::writing::{Counts, finish, is_ended, write_all};
+use crate::writing::{Counts, finish, hand_over, is_ended, write_all};
 use anyhow::{Result, anyhow};
 use py_buffered::{BufferedRandom, BufferedWriter};
 use py_flat::IoFault;
@@ -122,8 +123,8 @@ fn try_calls<T: Tried>(
     came
 }
 
-/// Makes the calls of a trial, and takes the text apart.
-fn try_text<T: Tried>(
+/// Makes the calls of a trial, and takes the text apart, or what a detach hands over.
+fn try_text<T: HandsOver>(
     alloc: Global,
     text: T,
     flat: &mut Flat,
@@ -132,7 +133,10 @@ fn try_text<T: Tried>(
 ) -> Result<(Came, Apart), AllocError> {
     let mut text = text;
     let came = try_calls(alloc, &mut text, flat, trial, counts);
-    Ok((came, text.take_apart(alloc)?))
+    match trial.run.end {
+        End::Detached => hand_over(alloc, text, came, counts),
+        _ => Ok((came, text.take_apart(alloc)?)),
+    }
 }
 
 /// Tries a text over a writer.
@@ -175,7 +179,7 @@ fn over_random(
     Ok(try_text(alloc, text, flat, trial, counts)?)
 }
 
-/// Tries a session, whose handler is strict. Its opening may be what the raw fails.
+/// Tries a session. Its opening may be what the raw fails.
 fn over_raw(
     alloc: Global,
     flat: &mut Flat,
@@ -188,13 +192,16 @@ fn over_raw(
     }
     let size = trial.run.buffer_size;
     let settings = trial.text_settings();
-    if size == 0 || settings.chunk_size == 0 {
-        return Err(anyhow!("a session without room: {:?}", trial.run));
-    }
     let coder = Coder {
         encoding: trial.settings.encoding,
-        errors: Handler::Strict,
+        errors: trial.settings.handler,
     };
+    if size == 0 || settings.chunk_size == 0 || coder.errors == Handler::SurrogatePass {
+        return Err(anyhow!("a session without room: {:?}", trial.run));
+    }
+    if access.reads() && !coder.errors.reads_texts() {
+        return Err(anyhow!("a session by no handler of readings: {coder:?}"));
+    }
     let raw = trial.raw(alloc, RawFlags::able(true, true, true))?;
     match TextSession::new(alloc, raw, access, size, coder, settings) {
         Ok(text) => Ok(try_text(alloc, text, flat, trial, counts)?),
@@ -232,6 +239,9 @@ fn try_runs(
     for line_buffering in [false, true] {
         for write_through in [false, true] {
             for number in 0..which.runs() {
+                if !which.has(number, pieces.len(), settings.handler) {
+                    continue;
+                }
                 let run = which.run(number, pieces.len());
                 let trial = Trial {
                     settings,

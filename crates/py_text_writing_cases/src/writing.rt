@@ -1,10 +1,11 @@
 //! A text and the plain one, written piece by piece.
 use crate::flat::Flat;
+use crate::handed_over::{HandsOver, with_raw};
 use crate::pieces::Piece;
 use crate::runs::{End, Run};
 use py_flat::IoFault;
-use py_text_trials::{Asking, Came, Tried};
-use std::alloc::Global;
+use py_text_trials::{Apart, Asking, Came, Tried};
+use std::alloc::{AllocError, Global};
 
 /// What came of texts.
 #[derive(Clone, Copy, Debug, PartialEq, Eq)]
@@ -109,6 +110,7 @@ pub(crate) fn finish<T: Tried>(text: &mut T, end: End, counts: &mut Counts) -> C
     for _ in 0..3 {
         let answer = match end {
             End::Apart => return Came::Short,
+            End::Detached => return Came::Same, // `hand_over` ends it
             End::Flushed => text.flush(),
             End::Closed => text.close(),
         };
@@ -134,4 +136,52 @@ pub(crate) fn is_ended<T: Tried>(alloc: Global, text: &mut T) -> bool {
     text.write(alloc, "a") == Err(IoFault::Failed)
         && text.flush() == Err(IoFault::Failed)
         && text.close() == Err(IoFault::Failed)
+}
+
+/// Detaches a text, and answers what came, of its calls before and of this, and what was handed over. A raw that would block once is asked
+/// again, and a text that the raw failed is detached then.
+fn detach<T: HandsOver>(
+    alloc: Global,
+    text: &mut T,
+    came: Came,
+    counts: &mut Counts,
+) -> (Came, Option<Apart>) {
+    let mut came = came;
+    for _ in 0..3 {
+        match text.hand_over(alloc) {
+            Ok(apart) => {
+                counts.count(Came::Same, false);
+                return (came, Some(apart));
+            }
+            Err(IoFault::WouldBlock { taken: 0 }) => counts.count(Came::Short, false),
+            Err(IoFault::RawFault) => {
+                counts.count(Came::Faulted, false);
+                let is_first = came == Came::Same && is_ended(alloc, text);
+                came = if is_first {
+                    Came::Faulted
+                } else {
+                    Came::Differs
+                };
+            }
+            Err(_) => return (Came::Differs, None),
+        }
+    }
+    (Came::Differs, None)
+}
+
+/// Ends a text by a detach: what came, of its calls before and of this, and what was handed over.
+pub(crate) fn hand_over<T: HandsOver>(
+    alloc: Global,
+    text: T,
+    came: Came,
+    counts: &mut Counts,
+) -> Result<(Came, Apart), AllocError> {
+    let mut text = text;
+    let (came, handed) = detach(alloc, &mut text, came, counts);
+    let is_detached = text.flush() == Err(IoFault::Detached);
+    let rest = text.take_apart(alloc)?;
+    Ok(match handed {
+        Some(handed) if is_detached && rest.owes_nothing() => (came, with_raw(handed, rest)),
+        _ => (Came::Differs, rest),
+    })
 }

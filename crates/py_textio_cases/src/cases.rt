@@ -7,7 +7,7 @@ use py_raw::RawFlags;
 use py_stream::{BufferedStream, NewRefused};
 use py_text::{Coder, Reconfigure, TextSettings};
 use py_text_trials::{coder, plan_of, push_answer, push_fault, raw_of, rule, split};
-use py_textio::TextIOWrapper;
+use py_textio::{TextIOCookie, TextIOWrapper};
 use std::alloc::Global;
 
 /// Other settings, as `ENCODING,HANDLER,RULE`: a word that is no name of one leaves it.
@@ -23,14 +23,30 @@ fn changes(words: &str) -> Reconfigure {
     }
 }
 
-/// Makes a call: `r` of all, `r2` of two characters, `l` of a line, `l2` of at most two characters of one, `c` closes, and `slatin-1,-,lf` sets
-/// the encoding and the rule.
+/// Appends where a text stands: a cookie by its 25 bytes.
+fn push_told(alloc: Global, out: &mut String, told: Result<TextIOCookie, IoFault>) -> Result<()> {
+    let cookie = match told {
+        Ok(cookie) => cookie,
+        Err(fault) => return Ok(push_fault(alloc, out, fault)?),
+    };
+    let Some(bytes) = cookie.build() else {
+        return Err(anyhow!("a cookie that can't be built"));
+    };
+    out.push_str("cookie ")?;
+    Ok(out.push_str(hex::encode(alloc, &bytes[..])?.as_str())?)
+}
+
+/// Makes a call: `r` of all, `r2` of two characters, `l` of a line, `l2` of at most two characters of one, `c` closes, `tell` asks where the
+/// text stands, and `slatin-1,-,lf` sets the encoding and the rule.
 fn call<B: BufferedStream>(
     alloc: Global,
     text: &mut TextIOWrapper<B>,
     word: &str,
     out: &mut String,
 ) -> Result<()> {
+    if word == "tell" {
+        return push_told(alloc, out, text.tell());
+    }
     let mut letters = word.chars();
     let kind = letters.next();
     let size = letters.as_str().parse::<usize>().ok();

@@ -1,21 +1,26 @@
 //! Reads texts beside the plain slow text, in every encoding, by every handler and newline rule, in chunks and through buffers of
 //! many sizes, over raw streams that move a byte at a time, wait before any transfer or fail at any call, by one call over and over;
-//! and by all calls in turn, through a reader, through a stream that is written too, and in memory; and long texts by lines. It prints how many answers came,
-//! and ends at the first that differs. Before that it runs the cases of the files that are its words. `stdout` has what must come.
+//! and by all calls in turn, through a reader, through a stream that is written too, and in memory; and long texts by lines. Behind each
+//! call a text is asked where it stands, as at its start, but of the long ones; for this it reads besides all short strings of telling
+//! bytes, and texts behind ASCII. It prints how many answers came and how many places were told, and ends at the first that differs.
+//! Before that it runs the cases of the files that are its words. `stdout` has what must come.
 //!
 //! Nothing here is clever: it is code to be read and trusted, and only its safety is proved.
 #![tactic(auto)]
 
 mod cases;
+mod places;
+mod runs;
 mod samples;
 mod sweep;
 
 use anyhow::Result;
+use runs::Sweep;
 use std::{env, fs};
-use sweep::{Sweep, read_each};
+use sweep::read_each;
 
 /// The sweeps, in the order in which they are made.
-const SWEEPS: [Sweep; 7] = [
+const SWEEPS: [Sweep; 9] = [
     Sweep::Sizes,
     Sweep::Waits,
     Sweep::Faults,
@@ -23,6 +28,8 @@ const SWEEPS: [Sweep; 7] = [
     Sweep::ReadWrite,
     Sweep::Memory,
     Sweep::Long,
+    Sweep::Telling,
+    Sweep::Behind,
 ];
 
 /// Runs the cases of a file, and prints each line and what came.
@@ -46,12 +53,13 @@ fn main(rt: HostRuntime) -> Result<()> {
     for which in SWEEPS {
         let counts = read_each(rt.alloc(), which)?;
         println!(rt;
-            "{}: {} texts, {} answers, {} short, {} faults",
+            "{}: {} texts, {} answers, {} short, {} faults, {} tells",
             which.name(),
             counts.texts,
             counts.answers,
             counts.short,
-            counts.faults
+            counts.faults,
+            counts.tells
         )?;
     }
     Ok(())

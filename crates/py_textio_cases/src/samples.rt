@@ -1,5 +1,6 @@
 //! What is read, and by which calls.
 use py_text_trials::Asking;
+use std::alloc::{AllocError, Global};
 
 /// The calls.
 pub(crate) const CALLS: [Asking; 6] = [
@@ -30,3 +31,25 @@ pub(crate) const SAMPLES: [&[u8]; 12] = [
 
 /// What stands before a sample each time, where it is read over and over.
 pub(crate) const FILLER: [u8; 250] = [b'x'; 250];
+
+/// What stands before a sample that is told behind ASCII: more than the bytes that are looked at at once.
+pub(crate) const BLOCK: [u8; 70] = [b'x'; 70];
+
+/// Bytes of which all short strings are told: line ends, a character, the front and the middle of one of three bytes, which are also
+/// a range that is refused, half of a surrogate, a zero, and one that is no UTF-8.
+const TELLING: [u8; 8] = [b'\n', b'\r', b'a', 0xE2, 0x82, 0xD8, 0x00, 0xFF];
+
+/// A string of those bytes by its number: the empty one, then those of one byte, of two, of three and of four.
+pub(crate) fn telling(alloc: Global, number: usize) -> Result<Vec<u8>, AllocError> {
+    let mut bytes = Vec::new(alloc);
+    let mut left = number;
+    for _ in 0..4 {
+        if left == 0 {
+            break;
+        }
+        left -= 1;
+        bytes.push(TELLING[left % TELLING.len()])?;
+        left /= TELLING.len();
+    }
+    Ok(bytes)
+}
