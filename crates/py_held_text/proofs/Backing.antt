@@ -53,31 +53,31 @@ back-passed gone decoded passed items within =
 
 -- What is in hand.
 
-pub anew-by : (coder reading_coder : Coder) (known after : KnownView) (newline : Newlines) (items : List ℕ) (gone decoded given place room : ℕ) (mark : Option Mark) (ended : Bool) → gone ≤ decoded → decoded ≤ len items → after ≡ record { newline = newline; characters = []; cr = false } → held-by reading_coder after (back_of gone gone items) 0 None false (drop gone items) (place - (decoded - gone)) room ≡ held_anew reading_coder newline (held-by coder known (back_of gone decoded items) given mark ended (drop decoded items) place room)
-anew-by coder reading_coder known after newline items gone decoded given place room mark ended from within after_is =
-    ap (λ (k : KnownView). held-by reading_coder k (back_of gone gone items) 0 None false (drop gone items) (place - (decoded - gone)) room) after_is
-    ∙ (ap (λ (b : List ℕ). held-by reading_coder (record { newline = newline; characters = []; cr = false }) b 0 None false (drop gone items) (place - (decoded - gone)) room) (back-none gone items)
-    ∙ (ap (λ (b : List ℕ). held-by reading_coder (record { newline = newline; characters = []; cr = false }) [] 0 None false b (place - (decoded - gone)) room) (back-whole gone decoded items from)
-    ∙ ap (λ (n : ℕ). held-by reading_coder (record { newline = newline; characters = []; cr = false }) [] 0 None false (back_of gone decoded items ++ drop decoded items) (place - n) room) (sym (back-length gone decoded items from within))))
+pub anew-by : (coder reading_coder : Coder) (known after : KnownView) (newline : Newlines) (items : List ℕ) (front gone decoded given place room : ℕ) (mark : Option Mark) (ended : Bool) → gone ≤ decoded → decoded ≤ len items → after ≡ record { newline = newline; characters = []; cr = false } → held-by reading_coder after 0 (back_of gone gone items) 0 None false (drop gone items) (place - (decoded - gone)) room ≡ held_anew reading_coder newline (held-by coder known front (back_of gone decoded items) given mark ended (drop decoded items) place room)
+anew-by coder reading_coder known after newline items front gone decoded given place room mark ended from within after_is =
+    ap (λ (k : KnownView). held-by reading_coder k 0 (back_of gone gone items) 0 None false (drop gone items) (place - (decoded - gone)) room) after_is
+    ∙ (ap (λ (b : List ℕ). held-by reading_coder (record { newline = newline; characters = []; cr = false }) 0 b 0 None false (drop gone items) (place - (decoded - gone)) room) (back-none gone items)
+    ∙ (ap (λ (b : List ℕ). held-by reading_coder (record { newline = newline; characters = []; cr = false }) 0 [] 0 None false b (place - (decoded - gone)) room) (back-whole gone decoded items from)
+    ∙ ap (λ (n : ℕ). held-by reading_coder (record { newline = newline; characters = []; cr = false }) 0 [] 0 None false (back_of gone decoded items ++ drop decoded items) (place - n) room) (sym (back-length gone decoded items from within))))
 
 -- the base passes no more than what was decoded
 passed-if : (behind : Bool) (one other : BaseMove) (back : ℕ) → one.passed ≤ back → other.passed ≤ back → (if behind then one else other).passed ≤ back
 passed-if true one other back first second = first
 passed-if false one other back first second = second
 
-passed-within : (count given known back : ℕ) (cr : Bool) (mark : Option Mark) → IfSome mark (IsMark known back cr) → (base_behind count given mark).passed ≤ back
-passed-within count given known back cr None marked = omega arith
-passed-within count given known back cr (Some mark) marked = passed-if (nat_lt mark.count count) _ _ back marked.passed (omega arith)
+passed-within : (count front given known back : ℕ) (cr : Bool) (mark : Option Mark) → IfSome mark (IsMark known back cr) → (base_behind count front given mark).passed ≤ back
+passed-within count front given known back cr None marked = omega arith
+passed-within count front given known back cr (Some mark) marked = passed-if (nat_lt mark.count count) _ _ back marked.passed (omega arith)
 
-pub given-by : (coder : Coder) (known after : KnownView) (items items_now : List ℕ) (gone decoded given place room old_room count : ℕ) (mark : Option Mark) (ended : Bool) (base : BaseMove) → gone ≤ decoded → IfSome mark (IsMark (len known.characters) (decoded - gone) known.cr) → base ≡ base_behind count given mark → after ≡ record known { characters = drop count known.characters } → items_now ≡ items → held-by coder after (back_of (gone + base.passed) decoded items_now) base.given base.mark ended (drop decoded items_now) place room ≡ record (given_on count (held-by coder known (back_of gone decoded items) given mark ended (drop decoded items) place old_room)) { room = room }
-given-by coder known after items items_now gone decoded given place room old_room count mark ended base from marked base_is after_is items_are =
-    let own : BaseMove = base_behind count given mark in
+pub given-by : (coder : Coder) (known after : KnownView) (items items_now : List ℕ) (front gone decoded given place room old_room count : ℕ) (mark : Option Mark) (ended : Bool) (base : BaseMove) → gone ≤ decoded → IfSome mark (IsMark (len known.characters) (decoded - gone) known.cr) → base ≡ base_behind count front given mark → after ≡ record known { characters = drop count known.characters } → items_now ≡ items → held-by coder after base.front (back_of (gone + base.passed) decoded items_now) base.given base.mark ended (drop decoded items_now) place room ≡ record (given_on count (held-by coder known front (back_of gone decoded items) given mark ended (drop decoded items) place old_room)) { room = room }
+given-by coder known after items items_now front gone decoded given place room old_room count mark ended base from marked base_is after_is items_are =
+    let own : BaseMove = base_behind count front given mark in
     let rest : KnownView = record known { characters = drop count known.characters } in
-    let fits : gone + own.passed ≤ decoded = omega (arith, from, passed-within count given (len known.characters) (decoded - gone) known.cr mark marked) in
-    ap (λ (k : KnownView). held-by coder k (back_of (gone + base.passed) decoded items_now) base.given base.mark ended (drop decoded items_now) place room) after_is
-    ∙ (ap (λ (all : List ℕ). held-by coder rest (back_of (gone + base.passed) decoded all) base.given base.mark ended (drop decoded all) place room) items_are
-    ∙ (ap (λ (b : BaseMove). held-by coder rest (back_of (gone + b.passed) decoded items) b.given b.mark ended (drop decoded items) place room) base_is
-    ∙ ap (λ (b : List ℕ). held-by coder rest b own.given own.mark ended (drop decoded items) place room) (back-passed gone decoded own.passed items fits)))
+    let fits : gone + own.passed ≤ decoded = omega (arith, from, passed-within count front given (len known.characters) (decoded - gone) known.cr mark marked) in
+    ap (λ (k : KnownView). held-by coder k base.front (back_of (gone + base.passed) decoded items_now) base.given base.mark ended (drop decoded items_now) place room) after_is
+    ∙ (ap (λ (all : List ℕ). held-by coder rest base.front (back_of (gone + base.passed) decoded all) base.given base.mark ended (drop decoded all) place room) items_are
+    ∙ (ap (λ (b : BaseMove). held-by coder rest b.front (back_of (gone + b.passed) decoded items) b.given b.mark ended (drop decoded items) place room) base_is
+    ∙ ap (λ (b : List ℕ). held-by coder rest own.front b own.given own.mark ended (drop decoded items) place room) (back-passed gone decoded own.passed items fits)))
 
 -- what is told of the bytes from the base on
 pub told-by : (encoding : Encoding) (handler : Handler) (newline rule : Newlines) (last : Bool) (gone decoded place given : ℕ) (items bytes : List ℕ) (told : Told) → gone ≤ decoded → decoded ≤ len items → rule ≡ newline → bytes ≡ drop gone items → IsToldAmong encoding handler rule last (place - (decoded - gone)) given bytes told → IsToldAmong encoding handler newline last (place - len (back_of gone decoded items)) given (back_of gone decoded items ++ drop decoded items) told
@@ -111,17 +111,18 @@ marked-more mark cr now known after back used grows few marked =
     (λ sets. record { count = grows; some = not-base cr back (comes_next mark) sets; passed = omega arith; few = omega (arith, few, ap one-if (no-cr cr (nat_eq back 0) (comes_next mark) sets)) })
 
 -- what holds of what is in hand, once more was decoded
-pub held-more : (known after : KnownView) (cs : List ℕ) (mark now : Option Mark) (total gone decoded used place given count passed : ℕ) → IsHeld total gone decoded place (len known.characters) given known.cr mark → after ≡ reading known cs → len cs ≤ 6 * used → decoded + used ≤ total → now ≡ mark_by mark known.cr count passed → count ≡ len known.characters → passed ≡ decoded - gone → IsHeld total gone (decoded + used) (place + used) (len after.characters) given after.cr now
-held-more known after cs mark now total gone decoded used place given count passed is after_is few within now_is count_is passed_is =
+pub held-more : (known after : KnownView) (cs : List ℕ) (mark now : Option Mark) (total gone decoded used place front given count passed : ℕ) → IsHeld total gone decoded place (len known.characters) front given known.cr mark → after ≡ reading known cs → len cs ≤ 6 * used → decoded + used ≤ total → now ≡ mark_by mark known.cr count passed → count ≡ len known.characters → passed ≡ decoded - gone → IsHeld total gone (decoded + used) (place + used) (len after.characters) front given after.cr now
+held-more known after cs mark now total gone decoded used place front given count passed is after_is few within now_is count_is passed_is =
     let behind : (decoded + used) - gone ≡ (decoded - gone) + used = omega (arith, is.from) in
     let grows : len (reading known cs).characters ≡ len known.characters + len (read_so_far known.newline known.cr cs) = length-append known.characters (read_so_far known.newline known.cr cs) in
     let read = read-few known.newline known.cr cs in
     let now_here : now ≡ mark_by mark known.cr (len known.characters) (decoded - gone) = now_is ∙ (ap (λ (n : ℕ). mark_by mark known.cr n passed) count_is ∙ ap (mark_by mark known.cr (len known.characters)) passed_is) in
-    subst (λ (k : KnownView). IsHeld total gone (decoded + used) (place + used) (len k.characters) given k.cr now) (sym after_is) (record {
+    subst (λ (k : KnownView). IsHeld total gone (decoded + used) (place + used) (len k.characters) front given k.cr now) (sym after_is) (record {
       from = omega (arith, is.from);
       within = within;
       behind = omega (arith, is.behind);
       near = omega (arith, is.near);
+      among = omega (arith, is.among, grows);
       few = omega (arith, is.few, is.from, grows, read, few);
       marked = subst (λ (n : ℕ). IfSome now (IsMark (len (reading known cs).characters) n (reading known cs).cr)) (sym behind)
           (subst (λ (m : Option Mark). IfSome m (IsMark (len (reading known cs).characters) ((decoded - gone) + used) (reading known cs).cr)) (sym now_here)

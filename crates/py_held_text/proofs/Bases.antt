@@ -1,7 +1,7 @@
 -- What is known of the base and of the mark stays so.
 use Rattle.std.proofs.Common.{◌≡◌, ℕ, ◌+◌, ◌-◌, ◌≤◌, ◌<◌, ◌||◌, Bool, true, false, true≢false, nat_eq, nat_lt, if◌then◌else◌, List, [], ◌++◌, length, take, drop, ◌⊎◌, inl, inr, Option, Some, None, IfSome, is_some, refl, sym, ap, subst, ◌∙◌, arith}
 use Rattle.std.proofs.lemmas.Bool.{ltb-true, ltb-false}
-use Rattle.std.proofs.lemmas.List.{append-nil, append_assoc, length-append, length-drop, length-take-le, take-append-drop, drop-append-le, drop-drop}
+use Rattle.std.proofs.lemmas.List.{append-nil, append_assoc, length-append, length-drop, length-take-le, drop-append-le}
 use Rattle.std.proofs.Math.Seq.{drop-append_seam}
 use Rattle.py_plain.specs.declared.encoding.Encoding.{Encoding}
 use Rattle.py_plain.specs.declared.handler.Handler.{Handler}
@@ -24,6 +24,10 @@ use Rattle.py_held_text.proofs.Marking.{either-mark, no-cr}
 use Rattle.py_held_text.specs.Decodes.{KeepsSettings, Passes, Decodes, IsStopped}
 use Rattle.py_held_text.specs.Bases.{from_base, rebased, with_gone, without, IsBack, KnowsBase, MarkStands, KnowsBases, SureBase, SureMark, SureBases, GaveSurely}
 use Rattle.py_held_text.proofs.Walking.{both-before}
+use Rattle.py_held_text.proofs.Given.{given-to-mark, given-past-mark, given-behind}
+
+abbrev rest-of : List ℕ → Option (ℕ × ℕ) → Rest
+rest-of characters refusal = record { characters = characters; refusal = refusal }
 
 -- Items.
 
@@ -45,7 +49,7 @@ pub record SameBase (old new : HeldView) : Type 0 where
   pub whole : whole_of new ≡ whole_of old
 
 abbrev from-there : Encoding → Handler → Newlines → Order → (place : ℕ) → (bytes : List ℕ) → (room : ℕ) → HeldView
-from-there encoding handler newline order place bytes room = record { encoding = encoding; handler = handler; newline = newline; known = []; cr = false; back = []; given = 0; mark = None; ended = false; bytes = bytes; place = place; order = order; room = room }
+from-there encoding handler newline order place bytes room = record { encoding = encoding; handler = handler; newline = newline; known = []; cr = false; front = 0; back = []; given = 0; mark = None; ended = false; bytes = bytes; place = place; order = order; room = room }
 
 from-same : (old new : HeldView) (passed : ℕ) → SameBase old new → from_base new passed ≡ record (from_base old passed) { room = new.room }
 from-same old new passed same =
@@ -69,12 +73,16 @@ ahead-same old new passed same more = ap (λ (held : HeldView). ahead held true 
 
 -- What is in hand was looked at.
 
-pub base-follows : (more : List ℕ) (old new : HeldView) (gone : List ℕ) → SameBase old new → new.given ≡ old.given → left_with new more ≡ left_with old more → Passes old new more → KnowsBase more old gone → KnowsBase more new gone
-base-follows more old new gone same given left items is =
+-- what is left without the characters that stand before the base
+behind-front : {one other : ℕ} {rest left : Rest} → one ≡ other → rest ≡ left → without other left ≡ without one rest
+behind-front {one} {other} {rest} {left} front same = ap (λ (n : ℕ). without n left) (sym front) ∙ ap (without one) (sym same)
+
+pub base-follows : (more : List ℕ) (old new : HeldView) (gone : List ℕ) → SameBase old new → new.front ≡ old.front → new.given ≡ old.given → left_with new more ≡ left_with old more → Passes old new more → KnowsBase more old gone → KnowsBase more new gone
+base-follows more old new gone same front given left items is =
     let both = passes-both (rebased old) old new more is.items items in
     record {
       count = is.count ∙ sym given;
-      left = left-same old new 0 same more ∙ (is.left ∙ ap (with_gone gone) (sym left));
+      left = left-same old new 0 same more ∙ (is.left ∙ ap (with_gone gone) (behind-front front left));
       items = (both.0, ahead-same old new 0 same more ∙ both.1);
     }
 
@@ -94,43 +102,58 @@ marks-follow more old new None same grows further left items is = tt
 marks-follow more old new (Some mark) same grows further left items is = mark-follows more old new mark same grows further left items is
 
 -- a CR that was held was given as an LF, or room was taken: no byte was decoded, and what is left stays
-pub bases-follow : (more : List ℕ) (old new : HeldView) (gone : List ℕ) → SameBase old new → new.place ≡ old.place → new.back ≡ old.back → new.given ≡ old.given → new.mark ≡ old.mark → length old.known ≤ length new.known → left_with new more ≡ left_with old more → Passes old new more → KnowsBases more old gone → KnowsBases more new gone
-bases-follow more old new gone same place back given mark grows left items is = record {
+pub bases-follow : (more : List ℕ) (old new : HeldView) (gone : List ℕ) → SameBase old new → new.place ≡ old.place → new.back ≡ old.back → new.front ≡ old.front → new.given ≡ old.given → new.mark ≡ old.mark → length old.known ≤ length new.known → left_with new more ≡ left_with old more → Passes old new more → KnowsBases more old gone → KnowsBases more new gone
+bases-follow more old new gone same place back front given mark grows left items is = record {
   back = omega (arith, is.back, ap length back, place);
-  base = base-follows more old new gone same given left items is.base;
+  base = base-follows more old new gone same front given left items is.base;
   mark = subst (λ (own : Option Mark). IfSome own (MarkStands more new)) (sym mark) (marks-follow more old new old.mark same grows (omega (arith, ap length back)) left items is.mark);
 }
 
--- Nothing is known yet.
+-- Nothing is known but what stands before the base.
 
+abbrev pub front-from : HeldView → List ℕ → HeldView
+front-from start cs = record start { known = cs; cr = false; front = length cs; back = []; given = 0; mark = None; ended = false }
+
+-- nothing is known yet
 abbrev pub nothing-from : HeldView → HeldView
-nothing-from start = record start { known = []; cr = false; back = []; given = 0; mark = None; ended = false }
+nothing-from start = front-from start []
 
-rebased-nothing : (start : HeldView) → rebased (nothing-from start) ≡ nothing-from start
-rebased-nothing start =
+rebased-front : (start : HeldView) (cs : List ℕ) → rebased (front-from start cs) ≡ nothing-from start
+rebased-front start cs =
     let here : (start.place - 0) + 0 ≡ start.place = omega arith in
     ap (λ (place : ℕ). from-there start.encoding start.handler start.newline start.order place start.bytes start.room) here
 
-pub bases-nothing : (more : List ℕ) (start : HeldView) → KnowsBases more (nothing-from start) []
-bases-nothing more start = record {
-  back = omega arith;
-  base = record {
-    count = refl;
-    left = ap (λ (held : HeldView). left_with held more) (rebased-nothing start);
-    items = ([], ap (λ (held : HeldView). ahead held true more) (rebased-nothing start));
-  };
-  mark = tt;
-}
+pub bases-front : (more : List ℕ) (start : HeldView) (cs : List ℕ) → KnowsBases more (front-from start cs) []
+bases-front more start cs =
+    let stop : Option (ℕ × ℕ) = refusal_of (ahead start true more).ending in
+    let behind : List ℕ = read_all start.newline false (characters_of (ahead start true more).items) in
+    record {
+      back = omega arith;
+      base = record {
+        count = refl;
+        left = ap (λ (held : HeldView). left_with held more) (rebased-front start cs) ∙ ap (λ (own : List ℕ). rest-of own stop) (sym (drop-append_seam cs behind));
+        items = ([], ap (λ (held : HeldView). ahead held true more) (rebased-front start cs));
+      };
+      mark = tt;
+    }
 
-pub sure-nothing : (start : HeldView) → GaveSurely (nothing-from start)
-sure-nothing start = λ more. (
-  [],
-  record {
-    back = omega arith;
-    base = record { count = refl; left = ap (λ (held : HeldView). left_surely held more) (rebased-nothing start) };
-    mark = tt;
-  },
-)
+pub bases-nothing : (more : List ℕ) (start : HeldView) → KnowsBases more (nothing-from start) []
+bases-nothing more start = bases-front more start []
+
+pub sure-front : (start : HeldView) (cs : List ℕ) → GaveSurely (front-from start cs)
+sure-front start cs = λ more.
+    let stop : Option (ℕ × ℕ) = refusal_of (ahead start false more).ending in
+    let behind : List ℕ = read_until (is_some stop) start.newline false (characters_of (ahead start false more).items) in (
+      [],
+      record {
+        back = omega arith;
+        base = record {
+          count = refl;
+          left = ap (λ (held : HeldView). left_surely held more) (rebased-front start cs) ∙ ap (λ (own : List ℕ). rest-of own stop) (sym (drop-append_seam cs behind));
+        };
+        mark = tt;
+      },
+    )
 
 -- Bytes were decoded.
 
@@ -154,9 +177,6 @@ from-here held behind =
     let place : base_of held + length held.back ≡ held.place = omega (arith, behind) in
     ap (λ (p : ℕ). from-there held.encoding held.handler held.newline held.order p (drop (length held.back) (whole_of held)) held.room) place
     ∙ ap (λ (b : List ℕ). from-there held.encoding held.handler held.newline held.order held.place b held.room) (drop-append_seam held.back held.bytes)
-
-abbrev rest-of : List ℕ → Option (ℕ × ℕ) → Rest
-rest-of characters refusal = record { characters = characters; refusal = refusal }
 
 -- what is left there, where no CR is held
 left-here : (held : HeldView) → IsBack held → held.cr ≡ false → (more : List ℕ) → left_with (from_base held (length held.back)) more ≡ without (length held.known) (left_with held more)
@@ -196,7 +216,7 @@ new-mark more last old new gone ends behind none decodes is =
 pub bases-decoded : (more : List ℕ) (last : Bool) (old new : HeldView) (gone : List ℕ) → (last ≡ true → more ≡ []) → Decodes last old new → KnowsBases more old gone → KnowsBases more new gone
 bases-decoded more last old new gone ends decodes is = record {
   back = omega (arith, back-grows last old new decodes, decodes.place, is.back);
-  base = base-follows more old new gone (same-decoded last old new decodes) decodes.given (decodes.left more ends) (decodes.items more ends) is.base;
+  base = base-follows more old new gone (same-decoded last old new decodes) decodes.front decodes.given (decodes.left more ends) (decodes.items more ends) is.base;
   mark = subst (λ (mark : Option Mark). IfSome mark (MarkStands more new)) (sym decodes.mark)
       (either-mark (MarkStands more new) ((old.cr || nat_eq (length old.back) 0) || comes_next old.mark) old.mark (record { count = length old.known; passed = length old.back })
       (marks-follow more old new old.mark (same-decoded last old new decodes) (known-grows last old new decodes) (omega (arith, back-grows last old new decodes)) (decodes.left more ends) (decodes.items more ends) is.mark)
@@ -242,10 +262,10 @@ surely-decoded more old new reads decodes = by-stop (refusal_of (ahead old false
         surely-stopped new more range (ap reads_texts decodes.settings.handler ∙ reads) (stop-same ∙ is)
         ∙ (decodes.left more (λ last. absurd (true≢false (sym last))) ∙ sym (surely-stopped old more range reads is))
 
-sure-base : (more : List ℕ) (old new : HeldView) (gone : List ℕ) → SameBase old new → new.given ≡ old.given → left_surely new more ≡ left_surely old more → SureBase more old gone → SureBase more new gone
-sure-base more old new gone same given left is = record {
+sure-base : (more : List ℕ) (old new : HeldView) (gone : List ℕ) → SameBase old new → new.front ≡ old.front → new.given ≡ old.given → left_surely new more ≡ left_surely old more → SureBase more old gone → SureBase more new gone
+sure-base more old new gone same front given left is = record {
   count = is.count ∙ sym given;
-  left = surely-same old new 0 same more ∙ (is.left ∙ ap (with_gone gone) (sym left));
+  left = surely-same old new 0 same more ∙ (is.left ∙ ap (with_gone gone) (behind-front front left));
 }
 
 sure-mark : (more : List ℕ) (old new : HeldView) (mark : Option Mark) → SameBase old new → length old.back ≤ length new.back → left_surely new more ≡ left_surely old more → IfSome mark (SureMark more old) → IfSome mark (SureMark more new)
@@ -267,7 +287,7 @@ sure-decoded old new reads decodes gave = λ more. ((gave more).0, by-bases more
         let left = surely-decoded more old new reads decodes in
         record {
           back = omega (arith, back-grows false old new decodes, decodes.place, is.back);
-          base = sure-base more old new gone same decodes.given left is.base;
+          base = sure-base more old new gone same decodes.front decodes.given left is.base;
           mark = subst (λ (mark : Option Mark). IfSome mark (SureMark more new)) (sym decodes.mark)
               (either-mark (SureMark more new) ((old.cr || nat_eq (length old.back) 0) || comes_next old.mark) old.mark (record { count = length old.known; passed = length old.back })
               (sure-mark more old new old.mark same (omega (arith, back-grows false old new decodes)) left is.mark)
@@ -307,48 +327,34 @@ sure-released held stops gave = λ more.
       (gave more).0,
       record {
         back = is.back;
-        base = sure-base more held (released-known held) (gave more).0 same refl left is.base;
+        base = sure-base more held (released-known held) (gave more).0 same refl refl left is.base;
         mark = sure-mark more held (released-known held) held.mark same (omega arith) left is.mark;
       },
     )
 
 -- Characters were given.
 
-given-before : (gone known rest : List ℕ) (count : ℕ) → gone ++ (known ++ rest) ≡ (gone ++ take count known) ++ (drop count known ++ rest)
-given-before gone known rest count =
-    sym (append_assoc gone (take count known) (drop count known ++ rest)
-    ∙ ap (λ (xs : List ℕ). gone ++ xs) (sym (append_assoc (take count known) (drop count known) rest) ∙ ap (λ (xs : List ℕ). xs ++ rest) (take-append-drop count known)))
-
-given-to-mark : (known rest : List ℕ) (mark count : ℕ) → count ≤ length known → count ≤ mark → drop mark (known ++ rest) ≡ drop (mark - count) (drop count known ++ rest)
-given-to-mark known rest mark count within before =
-    let whole : count + (mark - count) ≡ mark = omega (arith, before) in
-    ap (λ (n : ℕ). drop n (known ++ rest)) (sym whole)
-    ∙ (sym (drop-drop (mark - count) count (known ++ rest))
-    ∙ ap (drop (mark - count)) (drop-append-le count known rest within))
-
-given-past-mark : (known rest : List ℕ) (mark count : ℕ) → count ≤ length known → mark ≤ count → drop mark (known ++ rest) ≡ take (count - mark) (drop mark known) ++ (drop count known ++ rest)
-given-past-mark known rest mark count within past =
-    let whole : mark + (count - mark) ≡ count = omega (arith, past) in
-    let behind : List ℕ = drop mark known in
-    drop-append-le mark known rest (omega (arith, within, past))
-    ∙ (ap (λ (xs : List ℕ). xs ++ rest) (sym (take-append-drop (count - mark) behind))
-    ∙ (append_assoc (take (count - mark) behind) (drop (count - mark) behind) rest
-    ∙ ap (λ (xs : List ℕ). take (count - mark) behind ++ (xs ++ rest)) (drop-drop (count - mark) mark known ∙ ap (λ (n : ℕ). drop n known) whole)))
-
 -- some characters were given, and the base stands where this says
 abbrev gave : (count : ℕ) → BaseMove → (room : ℕ) → HeldView → HeldView
-gave count base room held = record held { known = drop count held.known; back = drop base.passed held.back; given = base.given; mark = base.mark; room = room }
+gave count base room held = record held { known = drop count held.known; front = base.front; back = drop base.passed held.back; given = base.given; mark = base.mark; room = room }
 
 -- the base stays
 abbrev stays : HeldView → (count : ℕ) → Option Mark → BaseMove
-stays held count mark = record { passed = 0; given = held.given + count; mark = mark }
+stays held count mark = record { passed = 0; front = held.front - count; given = held.given + (count - held.front); mark = mark }
 
-base-stays : (more : List ℕ) (held : HeldView) (gone : List ℕ) (count room : ℕ) (mark : Option Mark) → count ≤ length held.known → KnowsBase more held gone → KnowsBase more (gave count (stays held count mark) room held) (gone ++ take count held.known)
+-- the characters behind the front that were given
+abbrev past-front : HeldView → (count : ℕ) → List ℕ
+past-front held count = take (count - held.front) (drop held.front held.known)
+
+past-front-length : (held : HeldView) (count : ℕ) → count ≤ length held.known → length (past-front held count) ≡ count - held.front
+past-front-length held count within = length-take-le (count - held.front) (drop held.front held.known) (omega (arith, within, length-drop held.front held.known))
+
+base-stays : (more : List ℕ) (held : HeldView) (gone : List ℕ) (count room : ℕ) (mark : Option Mark) → count ≤ length held.known → KnowsBase more held gone → KnowsBase more (gave count (stays held count mark) room held) (gone ++ past-front held count)
 base-stays more held gone count room mark within is =
     let sure : List ℕ = read_all held.newline held.cr (characters_of (ahead held true more).items) in
     record {
-      count = omega (arith, is.count, length-append gone (take count held.known), length-take-le count held.known within);
-      left = is.left ∙ ap (λ (cs : List ℕ). rest-of cs (refusal_of (ahead held true more).ending)) (given-before gone held.known sure count);
+      count = omega (arith, is.count, length-append gone (past-front held count), past-front-length held count within);
+      left = is.left ∙ ap (λ (cs : List ℕ). rest-of cs (refusal_of (ahead held true more).ending)) (given-behind gone held.known sure held.front count within);
       items = is.items;
     }
 
@@ -356,10 +362,10 @@ base-stays more held gone count room mark within is =
 abbrev surely-behind : HeldView → List ℕ → List ℕ
 surely-behind held more = read_until (is_some (refusal_of (ahead held false more).ending)) held.newline held.cr (characters_of (ahead held false more).items)
 
-sure-stays : (more : List ℕ) (held : HeldView) (gone : List ℕ) (count room : ℕ) (mark : Option Mark) → count ≤ length held.known → SureBase more held gone → SureBase more (gave count (stays held count mark) room held) (gone ++ take count held.known)
+sure-stays : (more : List ℕ) (held : HeldView) (gone : List ℕ) (count room : ℕ) (mark : Option Mark) → count ≤ length held.known → SureBase more held gone → SureBase more (gave count (stays held count mark) room held) (gone ++ past-front held count)
 sure-stays more held gone count room mark within is = record {
-  count = omega (arith, is.count, length-append gone (take count held.known), length-take-le count held.known within);
-  left = is.left ∙ ap (λ (cs : List ℕ). rest-of cs (refusal_of (ahead held false more).ending)) (given-before gone held.known (surely-behind held more) count);
+  count = omega (arith, is.count, length-append gone (past-front held count), past-front-length held count within);
+  left = is.left ∙ ap (λ (cs : List ℕ). rest-of cs (refusal_of (ahead held false more).ending)) (given-behind gone held.known (surely-behind held more) held.front count within);
 }
 
 abbrev nearer : ℕ → Mark → Mark
@@ -384,7 +390,7 @@ sure-mark-stays more held count room mark within before is = record {
 
 -- the base moves to the mark
 abbrev moves : (count : ℕ) → Mark → BaseMove
-moves count mark = record { passed = mark.passed; given = count - mark.count; mark = None }
+moves count mark = record { passed = mark.passed; front = 0; given = count - mark.count; mark = None }
 
 -- the characters behind the mark that were given
 abbrev past-mark : HeldView → (count : ℕ) → Mark → List ℕ
@@ -429,7 +435,7 @@ pub record GivenOn (more : List ℕ) (held new : HeldView) : Type 0 where
 
 given-stays : (more : List ℕ) (held : HeldView) (gone : List ℕ) (count room : ℕ) (mark : Option Mark) → count ≤ length held.known → KnowsBases more held gone → IfSome mark (MarkStands more (gave count (stays held count mark) room held)) → GivenOn more held (gave count (stays held count mark) room held)
 given-stays more held gone count room mark within is marked = record {
-  gone = gone ++ take count held.known;
+  gone = gone ++ past-front held count;
   bases = record { back = is.back; base = base-stays more held gone count room mark within is.base; mark = marked };
   passed = 0;
   within = omega arith;
@@ -463,7 +469,7 @@ bases-given more held gone count room within is = by-mark held.mark is.mark
     by-count mark true is_past own = given-moves more held gone count room mark within (ltb-true mark.count count is_past) is own
     by-count mark false is_past own = given-stays more held gone count room (Some (nearer count mark)) within is (mark-stays more held count room mark within (ltb-false mark.count count is_past) own)
 
-    by-mark : (mark : Option Mark) → IfSome mark (MarkStands more held) → GivenOn more held (gave count (base_behind count held.given mark) room held)
+    by-mark : (mark : Option Mark) → IfSome mark (MarkStands more held) → GivenOn more held (gave count (base_behind count held.front held.given mark) room held)
     by-mark None own = given-stays more held gone count room None within is tt
     by-mark (Some mark) own = by-count mark (nat_lt mark.count count) refl own
 
@@ -481,7 +487,7 @@ sure-bases-given more held gone count room within is = by-mark held.mark is.mark
       },
     )
     by-count mark false is_past own = (
-      gone ++ take count held.known,
+      gone ++ past-front held count,
       record {
         back = is.back;
         base = sure-stays more held gone count room (Some (nearer count mark)) within is.base;
@@ -489,8 +495,8 @@ sure-bases-given more held gone count room within is = by-mark held.mark is.mark
       },
     )
 
-    by-mark : (mark : Option Mark) → IfSome mark (SureMark more held) → (own : List ℕ) × SureBases more (gave count (base_behind count held.given mark) room held) own
-    by-mark None own = (gone ++ take count held.known, record { back = is.back; base = sure-stays more held gone count room None within is.base; mark = tt })
+    by-mark : (mark : Option Mark) → IfSome mark (SureMark more held) → (own : List ℕ) × SureBases more (gave count (base_behind count held.front held.given mark) room held) own
+    by-mark None own = (gone ++ past-front held count, record { back = is.back; base = sure-stays more held gone count room None within is.base; mark = tt })
     by-mark (Some mark) own = by-count mark (nat_lt mark.count count) refl own
 
 pub sure-given : (held : HeldView) (count room : ℕ) → count ≤ length held.known → GaveSurely held → GaveSurely (record (given_on count held) { room = room })
@@ -548,7 +554,7 @@ bases-put more part held gone room is = record {
     count = is.base.count;
     left =
         ap (left-over held [] false (base_of held + 0)) (put-from held part more 0 (omega arith))
-        ∙ (is.base.left ∙ ap (with_gone gone) (ap (left-over held held.known held.cr held.place) here));
+        ∙ (is.base.left ∙ ap (λ (rest : Rest). with_gone gone (without held.front rest)) (ap (left-over held held.known held.cr held.place) here));
     items = (is.base.items.0, ap (walk-over held (base_of held + 0)) (put-from held part more 0 (omega arith)) ∙ (is.base.items.1 ∙ ap (λ (all : List ℕ). items_before is.base.items.0 (walk-over held held.place all)) here));
   };
   mark = by-mark held.mark is.mark;
@@ -577,7 +583,7 @@ sure-put part held room gave = λ more. ((gave (part ++ more)).0, by-bases more 
     by-bases : (more gone : List ℕ) → SureBases (part ++ more) held gone → SureBases more (put-behind held part room) gone
     by-bases more gone is = record {
       back = is.back;
-      base = record { count = is.base.count; left = there more 0 (omega arith) ∙ (is.base.left ∙ ap (with_gone gone) (here more)) };
+      base = record { count = is.base.count; left = there more 0 (omega arith) ∙ (is.base.left ∙ ap (λ (rest : Rest). with_gone gone (without held.front rest)) (here more)) };
       mark = by-mark more held.mark is.mark;
     }
 
@@ -600,11 +606,11 @@ sure-told held unknown gave =
     let near : Walk = walk Unknown 0 bytes in
     let far : Walk = walk Unknown there bytes in
     let alike = alike_anywhere held.handler held.encoding false Unknown 0 there bytes in
-    let all : reads (is_some (refusal_of near.ending)) (characters_of near.items) ≡ gone ++ (left_surely held []).characters =
+    let all : reads (is_some (refusal_of near.ending)) (characters_of near.items) ≡ gone ++ drop held.front (left_surely held []).characters =
     ap (λ (released : Bool). reads released (characters_of near.items)) alike.refused
     ∙ (ap (reads (is_some (refusal_of far.ending))) alike.characters
     ∙ (until-translated (is_some (refusal_of far.ending)) held.newline (characters_of far.items)
     ∙ (ap (λ (order : Order). gives (walk order there bytes)) (sym unknown)
     ∙ (ap (λ (xs : List ℕ). gives (walk held.order there xs)) (sym (append-nil bytes))
     ∙ ap (λ (rest : Rest). rest.characters) base.left)))) in
-    omega (arith, base.count, ap length all, length-append gone (left_surely held []).characters)
+    omega (arith, base.count, ap length all, length-append gone (drop held.front (left_surely held []).characters))

@@ -6,14 +6,16 @@ use Rattle.std.proofs.lemmas.List.{length-append, nil_from_length}
 use Rattle.std.proofs.lemmas.Str.{IsUtf8-string_bytes, encodes-chars, chars-nil}
 use Rattle.py_flat.specs.declared.fault.IoFault.{IoFault}
 use Rattle.py_plain.specs.declared.encoding.Encoding.{Encoding}
+use Rattle.py_plain.specs.declared.handler.Handler.{Handler}
 use Rattle.py_plain.specs.declared.newlines.Newlines.{Newlines}
 use Rattle.py_plain.specs.declared.newlines.Newlines.TheVariants as rule
 use Rattle.py_plain.specs.Units.{Order, Unknown}
-use Rattle.py_plain.specs.Handlers.{Treatment}
-use Rattle.py_plain.specs.Items.{Item, Ending, AtEnd, AtRange, AtCut, Walk, characters_of}
+use Rattle.py_plain.specs.Handlers.{Treatment, treatment}
+use Rattle.py_plain.specs.Items.{Item, Ending, AtEnd, AtRange, AtCut, Walk, walk_from, characters_of}
 use Rattle.py_plain.specs.NewlineRule.{universal, ends_held, read_so_far, holds_after}
 use Rattle.py_plain.specs.Pieces.{items_before}
 use Rattle.py_plain.proofs.Walks.{walk-order}
+use Rattle.py_telling.proofs.Anywhere.{alike_anywhere}
 use Rattle.py_codec.specs.declared.front.FrontDecoded.{FrontDecoded}
 use Rattle.py_codec.specs.declared.front.FrontStop.TheVariants as ends
 use Rattle.py_codec.specs.Answers.{text_of}
@@ -64,6 +66,13 @@ part-all want walk behind front part some = record {
   stop = part.stop ∙ stop-some (want - front.chars) walk.ending some;
   items = all-for want walk.items (omega (arith, some, part.chars));
 }
+
+-- a part of bytes too few for as many characters as are wanted is all of them, wherever they stand
+pub all-anywhere : (handler : Handler) (encoding : Encoding) (last : Bool) (bytes : List ℕ) (want place : ℕ) (front : FrontDecoded) → IsPart want (walk_here encoding (treatment handler encoding) last bytes 0) (walk_here encoding (treatment handler encoding) last bytes) front → front.used ≤ len bytes → 6 * len bytes < want → characters_of (items_for want (walk_here encoding (treatment handler encoding) last bytes 0).items) ≡ characters_of (walk_from encoding (treatment handler encoding) last Unknown place 0 bytes).items
+all-anywhere handler encoding last bytes want place front part within few =
+    let walk : Walk = walk_here encoding (treatment handler encoding) last bytes 0 in
+    let all = part-all want walk (walk_here encoding (treatment handler encoding) last bytes) front part (omega (arith, part.few, within, few)) in
+    ap characters_of all.items ∙ (alike_anywhere handler encoding last Unknown 0 place bytes).characters
 
 -- what was given of a decoding
 abbrev Gives : (encoding : Encoding) (treat : Treatment) (last : Bool) (bytes : List ℕ) (want : ℕ) (text : String Global) (steps later : ℕ) → FrontDecoded → Type 0

@@ -16,7 +16,7 @@ use Rattle.py_plain.proofs.Looking.{reading as looks_at}
 use Rattle.py_plain.proofs.Walks.{walk-order}
 use Rattle.py_plain_text.specs.Rest.{Rest}
 use Rattle.py_codec.specs.declared.front.FrontDecoded.{FrontDecoded}
-use Rattle.py_codec.specs.declared.front.FrontStop.TheVariants as front
+use Rattle.py_codec.specs.declared.front.FrontStop.TheVariants as stopped
 use Rattle.py_codec.specs.Decoding.{walk_here}
 use Rattle.py_codec.specs.Front.{items_for, front_stop}
 use Rattle.py_incremental.proofs.Cuts.{walk_cut}
@@ -76,7 +76,7 @@ range-in encoding treat last order place zero (byte ∷ rest) start end is =
 
 -- Why a front has no more.
 
-pub stop-range : (ending : Ending) (start end : ℕ) → front_stop 1 ending ≡ front.Refused start end → ending ≡ AtRange start end
+pub stop-range : (ending : Ending) (start end : ℕ) → front_stop 1 ending ≡ stopped.Refused start end → ending ≡ AtRange start end
 stop-range AtEnd start end is = absurd (cc)
 stop-range (AtCut at) start end is = absurd (cc)
 stop-range (AtRange from to) start end is =
@@ -84,7 +84,7 @@ stop-range (AtRange from to) start end is =
     let stops : to ≡ end = cc in
     ap (λ (s : ℕ). AtRange s to) begins ∙ ap (AtRange start) stops
 
-pub stop-drained : (ending : Ending) → front_stop 1 ending ≡ front.Drained → refusal_of ending ≡ None
+pub stop-drained : (ending : Ending) → front_stop 1 ending ≡ stopped.Drained → refusal_of ending ≡ None
 stop-drained AtEnd is = refl
 stop-drained (AtCut at) is = refl
 stop-drained (AtRange from to) is = absurd (cc)
@@ -111,8 +111,8 @@ moved-so-far newline cr known cs whole behind is =
     ∙ ap (λ (t : List ℕ). known ++ t) (sym (read-both newline cr cs behind) ∙ ap (read_so_far newline cr) (sym is))
 
 -- what a text has in hand, by its parts
-abbrev pub held-by : Coder → KnownView → List ℕ → (given : ℕ) → Option Mark → (ended : Bool) → List ℕ → (place room : ℕ) → HeldView
-held-by coder known back given mark ended bytes place room = record { encoding = coder.encoding; handler = coder.errors; newline = known.newline; known = known.characters; cr = known.cr; back = back; given = given; mark = mark; ended = ended; bytes = bytes; place = place; order = Unknown; room = room }
+abbrev pub held-by : Coder → KnownView → (front : ℕ) → List ℕ → (given : ℕ) → Option Mark → (ended : Bool) → List ℕ → (place room : ℕ) → HeldView
+held-by coder known front back given mark ended bytes place room = record { encoding = coder.encoding; handler = coder.errors; newline = known.newline; known = known.characters; cr = known.cr; front = front; back = back; given = given; mark = mark; ended = ended; bytes = bytes; place = place; order = Unknown; room = room }
 
 -- the mark once more is decoded
 abbrev pub marked-by : Option Mark → KnownView → List ℕ → Option Mark
@@ -127,7 +127,7 @@ abbrev pub PartDecoded : Coder → Bool → (want : ℕ) → List ℕ → FrontD
 PartDecoded coder last want bytes decoded = IsPart want (whole-walk coder last bytes) (walk_here coder.encoding (treatment coder.errors coder.encoding) last bytes) decoded
 
 -- a range that refuses a front lies within its bytes
-pub refused-within : (coder : Coder) (last : Bool) (want : ℕ) (bytes : List ℕ) (decoded : FrontDecoded) (start end : ℕ) → PartDecoded coder last want bytes decoded → decoded.stop ≡ front.Refused start end → RangeIn 0 (len bytes) start end
+pub refused-within : (coder : Coder) (last : Bool) (want : ℕ) (bytes : List ℕ) (decoded : FrontDecoded) (start end : ℕ) → PartDecoded coder last want bytes decoded → decoded.stop ≡ stopped.Refused start end → RangeIn 0 (len bytes) start end
 refused-within coder last want bytes decoded start end part is_refused =
     let all = part-all want (whole-walk coder last bytes) _ decoded part (lacks-refused _ _ start end (sym part.stop ∙ is_refused)) in
     range-in coder.encoding (treatment coder.errors coder.encoding) last Unknown 0 0 bytes start end (stop-range _ start end (sym all.stop ∙ is_refused))
@@ -139,8 +139,8 @@ part-items coder last want bytes = items_for want (whole-walk coder last bytes).
 leaves-by : (coder : Coder) (last : Bool) (want : ℕ) (bytes : List ℕ) (decoded : FrontDecoded) → PartDecoded coder last want bytes decoded → decoded.used ≤ len bytes → Leaves coder.encoding (treatment coder.errors coder.encoding) last bytes decoded.used (part-items coder last want bytes)
 leaves-by coder last want bytes decoded part within = record { within = within; goes_on = part.goes_on }
 
-decodes-here : (coder : Coder) (known : KnownView) (back : List ℕ) (given : ℕ) (mark : Option Mark) (ended : Bool) (bytes : List ℕ) (size place room more_room want : ℕ) (last : Bool) (decoded : FrontDecoded) → reads_texts coder.errors ≡ true → (last ≡ true → size ≡ len bytes) → PartDecoded coder last want (take size bytes) decoded → decoded.used ≤ len (take size bytes) → room ≤ more_room → Decodes last (held-by coder known back given mark ended bytes place room) (held-by coder (reading known (characters_of (part-items coder last want (take size bytes)))) (back ++ take decoded.used bytes) given (marked-by mark known back) (last || ended) (drop decoded.used bytes) (place + decoded.used) more_room)
-decodes-here coder known back given mark ended bytes size place room more_room want last decoded reads all part within more =
+decodes-here : (coder : Coder) (known : KnownView) (front : ℕ) (back : List ℕ) (given : ℕ) (mark : Option Mark) (ended : Bool) (bytes : List ℕ) (size place room more_room want : ℕ) (last : Bool) (decoded : FrontDecoded) → reads_texts coder.errors ≡ true → (last ≡ true → size ≡ len bytes) → PartDecoded coder last want (take size bytes) decoded → decoded.used ≤ len (take size bytes) → room ≤ more_room → Decodes last (held-by coder known front back given mark ended bytes place room) (held-by coder (reading known (characters_of (part-items coder last want (take size bytes)))) front (back ++ take decoded.used bytes) given (marked-by mark known back) (last || ended) (drop decoded.used bytes) (place + decoded.used) more_room)
+decodes-here coder known front back given mark ended bytes size place room more_room want last decoded reads all part within more =
     let encoding : Encoding = coder.encoding in
     let treat : Treatment = treatment coder.errors encoding in
     let items : List Item = part-items coder last want (take size bytes) in
@@ -158,6 +158,7 @@ decodes-here coder known back given mark ended bytes size place room more_room w
       room = more;
       back = refl;
       whole = append_assoc back (take used bytes) rest ∙ ap (λ (t : List ℕ). back ++ t) (take-append-drop used bytes);
+      front = refl;
       given = refl;
       mark = refl;
       ended = refl;
@@ -173,14 +174,14 @@ decodes-here coder known back given mark ended bytes size place room more_room w
     }
 
 -- a decoding is what a text in hand does
-pub decodes-by : (coder : Coder) (known after : KnownView) (back back_now : List ℕ) (given : ℕ) (mark mark_now : Option Mark) (ended ended_now : Bool) (bytes rest : List ℕ) (size place room more_room want : ℕ) (last : Bool) (decoded : FrontDecoded) → reads_texts coder.errors ≡ true → (last ≡ true → size ≡ len bytes) → PartDecoded coder last want (take size bytes) decoded → after ≡ reading known (characters_of (part-items coder last want (take size bytes))) → decoded.used ≤ len (take size bytes) → rest ≡ drop decoded.used bytes → back_now ≡ back ++ take decoded.used bytes → mark_now ≡ marked-by mark known back → ended_now ≡ (last || ended) → room ≤ more_room → Decodes last (held-by coder known back given mark ended bytes place room) (held-by coder after back_now given mark_now ended_now rest (place + decoded.used) more_room)
-decodes-by coder known after back back_now given mark mark_now ended ended_now bytes rest size place room more_room want last decoded reads all part after_is within rest_is back_is mark_is ended_is more =
-    subst (λ (k : KnownView). Decodes last (held-by coder known back given mark ended bytes place room) (held-by coder k back_now given mark_now ended_now rest (place + decoded.used) more_room)) (sym after_is)
-    (subst (λ (r : List ℕ). Decodes last (held-by coder known back given mark ended bytes place room) (held-by coder (reading known (characters_of (part-items coder last want (take size bytes)))) back_now given mark_now ended_now r (place + decoded.used) more_room)) (sym rest_is)
-    (subst (λ (b : List ℕ). Decodes last (held-by coder known back given mark ended bytes place room) (held-by coder (reading known (characters_of (part-items coder last want (take size bytes)))) b given mark_now ended_now (drop decoded.used bytes) (place + decoded.used) more_room)) (sym back_is)
-    (subst (λ (m : Option Mark). Decodes last (held-by coder known back given mark ended bytes place room) (held-by coder (reading known (characters_of (part-items coder last want (take size bytes)))) (back ++ take decoded.used bytes) given m ended_now (drop decoded.used bytes) (place + decoded.used) more_room)) (sym mark_is)
-    (subst (λ (e : Bool). Decodes last (held-by coder known back given mark ended bytes place room) (held-by coder (reading known (characters_of (part-items coder last want (take size bytes)))) (back ++ take decoded.used bytes) given (marked-by mark known back) e (drop decoded.used bytes) (place + decoded.used) more_room)) (sym ended_is)
-    (decodes-here coder known back given mark ended bytes size place room more_room want last decoded reads all part within more)))))
+pub decodes-by : (coder : Coder) (known after : KnownView) (front : ℕ) (back back_now : List ℕ) (given : ℕ) (mark mark_now : Option Mark) (ended ended_now : Bool) (bytes rest : List ℕ) (size place room more_room want : ℕ) (last : Bool) (decoded : FrontDecoded) → reads_texts coder.errors ≡ true → (last ≡ true → size ≡ len bytes) → PartDecoded coder last want (take size bytes) decoded → after ≡ reading known (characters_of (part-items coder last want (take size bytes))) → decoded.used ≤ len (take size bytes) → rest ≡ drop decoded.used bytes → back_now ≡ back ++ take decoded.used bytes → mark_now ≡ marked-by mark known back → ended_now ≡ (last || ended) → room ≤ more_room → Decodes last (held-by coder known front back given mark ended bytes place room) (held-by coder after front back_now given mark_now ended_now rest (place + decoded.used) more_room)
+decodes-by coder known after front back back_now given mark mark_now ended ended_now bytes rest size place room more_room want last decoded reads all part after_is within rest_is back_is mark_is ended_is more =
+    subst (λ (k : KnownView). Decodes last (held-by coder known front back given mark ended bytes place room) (held-by coder k front back_now given mark_now ended_now rest (place + decoded.used) more_room)) (sym after_is)
+    (subst (λ (r : List ℕ). Decodes last (held-by coder known front back given mark ended bytes place room) (held-by coder (reading known (characters_of (part-items coder last want (take size bytes)))) front back_now given mark_now ended_now r (place + decoded.used) more_room)) (sym rest_is)
+    (subst (λ (b : List ℕ). Decodes last (held-by coder known front back given mark ended bytes place room) (held-by coder (reading known (characters_of (part-items coder last want (take size bytes)))) front b given mark_now ended_now (drop decoded.used bytes) (place + decoded.used) more_room)) (sym back_is)
+    (subst (λ (m : Option Mark). Decodes last (held-by coder known front back given mark ended bytes place room) (held-by coder (reading known (characters_of (part-items coder last want (take size bytes)))) front (back ++ take decoded.used bytes) given m ended_now (drop decoded.used bytes) (place + decoded.used) more_room)) (sym mark_is)
+    (subst (λ (e : Bool). Decodes last (held-by coder known front back given mark ended bytes place room) (held-by coder (reading known (characters_of (part-items coder last want (take size bytes)))) front (back ++ take decoded.used bytes) given (marked-by mark known back) e (drop decoded.used bytes) (place + decoded.used) more_room)) (sym ended_is)
+    (decodes-here coder known front back given mark ended bytes size place room more_room want last decoded reads all part within more)))))
 
 -- a part that is all
 pub all-of : (coder : Coder) (last : Bool) (want : ℕ) (bytes : List ℕ) (size : ℕ) (decoded : FrontDecoded) → size ≡ len bytes → PartDecoded coder last want (take size bytes) decoded → PartDecoded coder last want bytes decoded
@@ -212,8 +213,8 @@ empty-if : (encoding : Encoding) (treat : Treatment) (last : Bool) (place : ℕ)
 empty-if encoding treat true place bytes none ends is = last-empty encoding treat place bytes none ends
 empty-if encoding treat false place bytes none ends is = absurd (cc)
 
-pub drained-by : (coder : Coder) (after : KnownView) (back : List ℕ) (given : ℕ) (mark : Option Mark) (ended : Bool) (bytes rest : List ℕ) (place room want : ℕ) (last : Bool) (decoded : FrontDecoded) → PartDecoded coder last want bytes decoded → IsAll want (whole-walk coder last bytes) decoded → decoded.used ≤ len bytes → rest ≡ drop decoded.used bytes → decoded.stop ≡ front.Drained → IsDrained last (held-by coder after back given mark ended rest (place + decoded.used) room)
-drained-by coder after back given mark ended bytes rest place room want last decoded part all within rest_is is_drained =
+pub drained-by : (coder : Coder) (after : KnownView) (front : ℕ) (back : List ℕ) (given : ℕ) (mark : Option Mark) (ended : Bool) (bytes rest : List ℕ) (place room want : ℕ) (last : Bool) (decoded : FrontDecoded) → PartDecoded coder last want bytes decoded → IsAll want (whole-walk coder last bytes) decoded → decoded.used ≤ len bytes → rest ≡ drop decoded.used bytes → decoded.stop ≡ stopped.Drained → IsDrained last (held-by coder after front back given mark ended rest (place + decoded.used) room)
+drained-by coder after front back given mark ended bytes rest place room want last decoded part all within rest_is is_drained =
     let encoding : Encoding = coder.encoding in
     let treat : Treatment = treatment coder.errors encoding in
     let used : ℕ = decoded.used in
@@ -261,8 +262,8 @@ ends-there encoding treat final by place bytes start end anywhere is =
     still encoding treat final by place bytes anywhere (ap (λ (w : Walk). w.items) is) ∙ ap (λ (w : Walk). ends Unknown (moved by w.ending)) is
 
 -- a range that is refused comes next, whatever stands behind the part that it was met in
-pub refuses-by : (coder : Coder) (after : KnownView) (back : List ℕ) (given : ℕ) (mark : Option Mark) (ended : Bool) (bytes rest : List ℕ) (size place room want : ℕ) (last : Bool) (decoded : FrontDecoded) (start end : ℕ) → reads_texts coder.errors ≡ true → (last ≡ true → size ≡ len bytes) → PartDecoded coder last want (take size bytes) decoded → IsAll want (whole-walk coder last (take size bytes)) decoded → decoded.used ≤ len (take size bytes) → rest ≡ drop decoded.used bytes → decoded.stop ≡ front.Refused start end → RefusesNext last (held-by coder after back given mark ended rest (place + decoded.used) room) (place + start) (place + end)
-refuses-by coder after back given mark ended bytes rest size place room want last decoded start end reads whole part all within rest_is is_refused =
+pub refuses-by : (coder : Coder) (after : KnownView) (front : ℕ) (back : List ℕ) (given : ℕ) (mark : Option Mark) (ended : Bool) (bytes rest : List ℕ) (size place room want : ℕ) (last : Bool) (decoded : FrontDecoded) (start end : ℕ) → reads_texts coder.errors ≡ true → (last ≡ true → size ≡ len bytes) → PartDecoded coder last want (take size bytes) decoded → IsAll want (whole-walk coder last (take size bytes)) decoded → decoded.used ≤ len (take size bytes) → rest ≡ drop decoded.used bytes → decoded.stop ≡ stopped.Refused start end → RefusesNext last (held-by coder after front back given mark ended rest (place + decoded.used) room) (place + start) (place + end)
+refuses-by coder after front back given mark ended bytes rest size place room want last decoded start end reads whole part all within rest_is is_refused =
     let encoding : Encoding = coder.encoding in
     let treat : Treatment = treatment coder.errors encoding in
     let used : ℕ = decoded.used in

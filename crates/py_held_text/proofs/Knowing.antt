@@ -1,5 +1,5 @@
 -- A text that is known: what stands behind what was given, and what changes it.
-use Rattle.std.proofs.Common.{◌≡◌, ℕ, ◌+◌, ◌-◌, ◌^◌, ◌<◌, Bool, false, Result, Ok, Err, OnErr, List, [], ◌++◌, length, take, drop, chars, encode_utf8_all, String, string_bytes, refl, sym, ap, subst, ◌∙◌, arith, append_assoc}
+use Rattle.std.proofs.Common.{◌≡◌, ℕ, ◌+◌, ◌-◌, ◌^◌, ◌<◌, ◌≤◌, Bool, false, Result, Ok, Err, OnErr, List, [], ◌++◌, length, take, drop, chars, encode_utf8_all, String, string_bytes, refl, sym, ap, subst, ◌∙◌, arith, append_assoc}
 use Rattle.std.specs.declared.alloc.Global.{Global}
 use Rattle.std.specs.Str.{IsUtf8, IsCharBoundary}
 use Rattle.std.proofs.lemmas.List.{length-append, length-drop, take-append-drop, length-take-le, drop-drop, take_all}
@@ -9,7 +9,7 @@ use Rattle.py_plain.specs.declared.newlines.Newlines.{Newlines}
 use Rattle.py_plain.specs.NewlineRule.{line_end, released, read_all, holds_after}
 use Rattle.py_codec.specs.Answers.{text_of}
 use Rattle.py_blocks.proofs.Written.{chars_within}
-use Rattle.py_text.proofs.Joining.{read-none}
+use Rattle.py_text.proofs.Joining.{read-none, holds-none}
 use Rattle.py_blocks.specs.declared.fronts.TextFront.{TextFront}
 use Rattle.py_held_text.specs.Finding.{IsFrontOf}
 use Rattle.py_held_text.specs.LineSearch.{IsSearched}
@@ -186,3 +186,27 @@ known-rest newline cs bytes given count searched cr front rest known is own rest
       open_line = searched-none (line_end newline) (chars (string_bytes rest));
       holds = behind.holds;
     }
+
+-- A text that is put in place of another.
+
+-- how many characters it has
+pub all-counted : (text : String Global) (seen : List ℕ) (most count : ℕ) → 2 ^ 63 ≤ most → seen ≡ string_bytes text → count ≡ length (take most (chars seen)) → count ≡ length (text_of text)
+all-counted text seen most count many seen_is counted =
+    let fits : length (text_of text) ≤ most = omega (arith, many, chars_within (string_bytes text) (IsUtf8-string_bytes text), text-fits text) in
+    counted ∙ (ap (λ (t : List ℕ). length (take most (chars t))) seen_is ∙ ap (λ (t : List ℕ). length t) (take_all most (text_of text) fits))
+
+-- it is known but for a front
+pub known-put : (newline : Newlines) (text : String Global) (front : TextFront) → IsFrontOf (text_of text) front → (count : ℕ) → count ≡ length (text_of text) → IsKnown newline (string_bytes text) front.bytes (count - front.chars) 0 false × (chars (drop front.bytes (string_bytes text)) ≡ drop front.chars (text_of text))
+known-put newline text front begins count counted =
+    let bytes : List ℕ = string_bytes text in
+    let own = front-given (text_of text) bytes 0 front (IsUtf8-string_bytes text) (IsCharBoundary-start bytes (IsUtf8-string_bytes text)) refl begins in
+    let all : IsKnown newline bytes 0 count 0 false = record {
+      boundary = IsCharBoundary-start bytes (IsUtf8-string_bytes text);
+      counted = counted;
+      open_line = searched-none (line_end newline) (chars bytes);
+      holds = holds-none newline;
+    } in
+    let size : 0 + front.bytes ≡ front.bytes = omega arith in (
+      subst (λ (n : ℕ). IsKnown newline bytes n (count - front.chars) 0 false) size (known-behind newline (text_of text) bytes 0 count 0 false front all refl own),
+      ap (λ (n : ℕ). chars (drop n bytes)) (sym size) ∙ own.left,
+    )

@@ -10,5 +10,6 @@ pub mod Walking
 pub mod Shifting
 pub mod Marking
 pub mod Backing
+pub mod Given
 pub mod Bases
 pub mod Keeping

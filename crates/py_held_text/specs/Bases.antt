@@ -7,7 +7,7 @@ use Rattle.py_held_text.specs.Decodes.{Passes}
 
 -- nothing is known from a place on, so many bytes behind the base, and the bytes in hand from there on are to be decoded
 abbrev pub from_base : HeldView → (passed : ℕ) → HeldView
-from_base held passed = record held { known = []; cr = false; back = []; given = 0; mark = None; ended = false; bytes = drop passed (whole_of held); place = base_of held + passed }
+from_base held passed = record held { known = []; cr = false; front = 0; back = []; given = 0; mark = None; ended = false; bytes = drop passed (whole_of held); place = base_of held + passed }
 
 -- nothing is known from the base on
 abbrev pub rebased : HeldView → HeldView
@@ -25,11 +25,11 @@ without count rest = record { characters = drop count rest.characters; refusal =
 abbrev pub IsBack : HeldView → Type 0
 IsBack held = length held.back ≤ held.place
 
--- With some bytes behind those in hand: from the base on the text has the characters that were given since, and then what is left; and the
--- bytes since the base are whole items
+-- With some bytes behind those in hand: from the base on the text has the characters that were given since, and then what is left, without
+-- the known characters that stand before the base; and the bytes since the base are whole items
 pub record KnowsBase (more : List ℕ) (held : HeldView) (gone : List ℕ) : Type 0 where
   pub count : length gone ≡ held.given
-  pub left : left_with (rebased held) more ≡ with_gone gone (left_with held more)
+  pub left : left_with (rebased held) more ≡ with_gone gone (without held.front (left_with held more))
   pub items : Passes (rebased held) held more
 
 -- With some bytes behind those in hand: from a mark on the text has what is left, without the known characters that stand before the mark;
@@ -53,7 +53,7 @@ pub record KnowsBases (more : List ℕ) (held : HeldView) (gone : List ℕ) : Ty
 -- the same of what is surely left while more may come
 pub record SureBase (more : List ℕ) (held : HeldView) (gone : List ℕ) : Type 0 where
   pub count : length gone ≡ held.given
-  pub left : left_surely (rebased held) more ≡ with_gone gone (left_surely held more)
+  pub left : left_surely (rebased held) more ≡ with_gone gone (without held.front (left_surely held more))
 
 pub record SureMark (more : List ℕ) (held : HeldView) (mark : Mark) : Type 0 where
   pub passed : mark.passed ≤ length held.back
@@ -65,7 +65,7 @@ pub record SureBases (more : List ℕ) (held : HeldView) (gone : List ℕ) : Typ
   pub mark : IfSome held.mark (SureMark more held)
 
 -- whatever comes behind what is in hand: the bytes from the base on surely give the characters that were given since, and then what is
--- surely left
+-- surely left, without the known characters that stand before the base
 abbrev pub GaveSurely : HeldView → Type 0
 GaveSurely held = (more : List ℕ) → (gone : List ℕ) × SureBases more held gone
 

@@ -24,8 +24,8 @@ Passes before behind more = (items : List Item) × (ahead before true more ≡ i
 
 -- Some bytes in hand were used, and what is known has grown by what they gave: at most six characters for each of them. What is left
 -- stays, whatever bytes come behind those in hand, none where these are the last; the place behind the bytes that were used is a boundary
--- between items. The base stays, and those bytes stand behind it; a mark is set where there was none. A decoding of the last bytes is
--- remembered
+-- between items. The base stays, and the front before it, and those bytes stand behind it; a mark is set where there was none. A decoding
+-- of the last bytes is remembered
 pub record Decodes (last : Bool) (old new : HeldView) : Type 0 where
   pub settings : KeepsSettings old new
   pub used : ℕ
@@ -36,6 +36,7 @@ pub record Decodes (last : Bool) (old new : HeldView) : Type 0 where
   pub room : old.room ≤ new.room
   pub back : new.back ≡ old.back ++ take used old.bytes
   pub whole : whole_of new ≡ whole_of old
+  pub front : new.front ≡ old.front
   pub given : new.given ≡ old.given
   pub mark : new.mark ≡ mark_by old.mark old.cr (length old.known) (length old.back)
   pub ended : new.ended ≡ (last || old.ended)

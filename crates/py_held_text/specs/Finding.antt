@@ -41,7 +41,8 @@ abbrev pub enough_before : Wanted → Newlines → List ℕ → Option ℕ
 enough_before (Characters size) newline cs = size_in_hand size cs
 enough_before (Line limit) newline cs = if is_ended (line_end newline) limit cs then Some (length (first_line (line_end newline) limit cs)) else None
 
--- a front was given, and is known no more, and nothing else changed but the base and the room; running out of memory leaves all as it was
+-- a front was given, and is known no more, and nothing else changed but the base, with what stands before it, and the room; running
+-- out of memory leaves all as it was
 abbrev pub GiveOutcome : TextFront → HeldView → Result (String Global) IoFault → HeldView → Type 0
 GiveOutcome front old (Ok text) new = (text_of text ≡ take front.chars old.known) × (new ≡ record (given_on front.chars old) { room = new.room })
 GiveOutcome front old (Err why) new = (why ≡ NoMemory) × (new ≡ old)

@@ -16,15 +16,17 @@ use Rattle.py_held_text.specs.declared.base.BaseMove.{BaseMove}
 use Rattle.py_held_text.specs.Known.{KnownView}
 
 -- how the bytes are read; the characters that are known and not given; whether a CR is held behind them, which the next
--- character releases; the bytes that were decoded since the base, a boundary between items, how many characters were given since, and a
--- later base that is to come; whether a decoding knew that no bytes come behind those in hand; the bytes behind them that aren't decoded,
--- the place of the first of those in the stream, and the order that they are read in; and for how many bytes more there is room
+-- character releases; the front, how many of the known characters stand before the base, since the text was put inside an item; the bytes
+-- that were decoded since the base, a boundary between items, how many characters were given since, and a later base that is to come;
+-- whether a decoding knew that no bytes come behind those in hand; the bytes behind them that aren't decoded, the place of the first of
+-- those in the stream, and the order that they are read in; and for how many bytes more there is room
 pub record HeldView : Type 0 where
   pub encoding : Encoding
   pub handler : Handler
   pub newline : Newlines
   pub known : List ℕ
   pub cr : Bool
+  pub front : ℕ
   pub back : List ℕ
   pub given : ℕ
   pub mark : Option Mark
@@ -38,17 +40,18 @@ pub record HeldView : Type 0 where
 abbrev pub back_of : (gone decoded : ℕ) → List ℕ → List ℕ
 back_of gone decoded bytes = take (decoded - gone) (drop gone bytes)
 
--- what is in hand, by its parts: of some bytes the first n are decoded, and of these the first few stand before the base
-abbrev pub view_of : Coder → KnownView → (gone decoded : ℕ) → List ℕ → (given : ℕ) → Option Mark → (ended : Bool) → (place room : ℕ) → HeldView
-view_of coder known gone decoded bytes given mark ended place room = record { encoding = coder.encoding; handler = coder.errors; newline = known.newline; known = known.characters; cr = known.cr; back = back_of gone decoded bytes; given = given; mark = mark; ended = ended; bytes = drop decoded bytes; place = place; order = Unknown; room = room }
+-- what is in hand, by its parts: so many of the known characters stand before the base; of some bytes the first n are decoded, and of these
+-- the first few stand before the base
+abbrev pub view_of : Coder → KnownView → (front gone decoded : ℕ) → List ℕ → (given : ℕ) → Option Mark → (ended : Bool) → (place room : ℕ) → HeldView
+view_of coder known front gone decoded bytes given mark ended place room = record { encoding = coder.encoding; handler = coder.errors; newline = known.newline; known = known.characters; cr = known.cr; front = front; back = back_of gone decoded bytes; given = given; mark = mark; ended = ended; bytes = drop decoded bytes; place = place; order = Unknown; room = room }
 
 -- nothing is in hand, at a place of the stream
 abbrev pub nothing_held : Coder → Newlines → (place room : ℕ) → HeldView
-nothing_held coder newline place room = record { encoding = coder.encoding; handler = coder.errors; newline = newline; known = []; cr = false; back = []; given = 0; mark = None; ended = false; bytes = []; place = place; order = Unknown; room = room }
+nothing_held coder newline place room = record { encoding = coder.encoding; handler = coder.errors; newline = newline; known = []; cr = false; front = 0; back = []; given = 0; mark = None; ended = false; bytes = []; place = place; order = Unknown; room = room }
 
 -- nothing is in hand any more, at another place of the stream
 abbrev pub cleared : HeldView → (place room : ℕ) → HeldView
-cleared held place room = record held { known = []; cr = false; back = []; given = 0; mark = None; ended = false; bytes = []; place = place; order = Unknown; room = room }
+cleared held place room = record held { known = []; cr = false; front = 0; back = []; given = 0; mark = None; ended = false; bytes = []; place = place; order = Unknown; room = room }
 
 -- The base.
 
@@ -62,7 +65,7 @@ base_of held = held.place - length held.back
 
 -- all bytes from the base on are in hand again and none is decoded, to be read by other settings
 abbrev pub held_anew : Coder → Newlines → HeldView → HeldView
-held_anew coder newline held = record { encoding = coder.encoding; handler = coder.errors; newline = newline; known = []; cr = false; back = []; given = 0; mark = None; ended = false; bytes = whole_of held; place = base_of held; order = Unknown; room = held.room }
+held_anew coder newline held = record { encoding = coder.encoding; handler = coder.errors; newline = newline; known = []; cr = false; front = 0; back = []; given = 0; mark = None; ended = false; bytes = whole_of held; place = base_of held; order = Unknown; room = held.room }
 
 -- whether the next character stands behind a mark
 abbrev pub comes_next : Option Mark → Bool
@@ -74,18 +77,20 @@ comes_next (Some mark) = nat_eq mark.count 0
 abbrev pub mark_by : Option Mark → (cr : Bool) → (count passed : ℕ) → Option Mark
 mark_by mark cr count passed = if (cr || nat_eq passed 0) || comes_next mark then mark else Some (record { count = count; passed = passed })
 
--- where the base stands once n characters more were given: where one of them stands behind the mark, there; else where it stood
-abbrev pub base_behind : (count given : ℕ) → Option Mark → BaseMove
-base_behind count given None = record { passed = 0; given = given + count; mark = None }
-base_behind count given (Some mark) =
-    if nat_lt mark.count count then record { passed = mark.passed; given = count - mark.count; mark = None }
-    else record { passed = 0; given = given + count; mark = Some (record mark { count = mark.count - count }) }
+-- where the base stands once n characters more were given: where one of them stands behind the mark, there, and then no known character
+-- stands before it; else where it stood, and those of the front don't count as given since
+abbrev pub base_behind : (count front given : ℕ) → Option Mark → BaseMove
+base_behind count front given None = record { passed = 0; front = front - count; given = given + (count - front); mark = None }
+base_behind count front given (Some mark) =
+    if nat_lt mark.count count then record { passed = mark.passed; front = 0; given = count - mark.count; mark = None }
+    else record { passed = 0; front = front - count; given = given + (count - front); mark = Some (record mark { count = mark.count - count }) }
 
--- n characters were given: they aren't known any more, and the base moves to a mark that one of them stands behind
+-- n characters were given: they aren't known any more, nor do they stand before the base, which moves to a mark that one of them stands
+-- behind
 abbrev pub given_on : ℕ → HeldView → HeldView
 given_on count held =
-    let base : BaseMove = base_behind count held.given held.mark in
-    record held { known = drop count held.known; back = drop base.passed held.back; given = base.given; mark = base.mark }
+    let base : BaseMove = base_behind count held.front held.given held.mark in
+    record held { known = drop count held.known; front = base.front; back = drop base.passed held.back; given = base.given; mark = base.mark }
 
 -- a mark stands among the known characters and the bytes that were decoded since the base, never at the base, and behind it stand at most
 -- six characters for each of those bytes
@@ -96,13 +101,15 @@ pub record IsMark (known back : ℕ) (cr : Bool) (mark : Mark) : Type 0 where
   pub few : known + (if cr then 1 else 0) + 6 * mark.passed ≤ mark.count + 6 * back
 
 -- of n bytes the first m are decoded, and of these the first few stand before the base; those behind them, which stand at a place, end no
--- further than a stream can. At most six characters were given and are known for each byte since the base, and so it is with the mark
-pub record IsHeld (total gone decoded place known given : ℕ) (cr : Bool) (mark : Option Mark) : Type 0 where
+-- further than a stream can. The front is of known characters; besides it at most six characters were given and are known for each byte
+-- since the base, and so it is with the mark
+pub record IsHeld (total gone decoded place known front given : ℕ) (cr : Bool) (mark : Option Mark) : Type 0 where
   pub from : gone ≤ decoded
   pub within : decoded ≤ total
   pub behind : decoded ≤ place + gone
   pub near : place + total ≤ greatest_place + decoded
-  pub few : given + known + (if cr then 1 else 0) ≤ 6 * (decoded - gone)
+  pub among : front ≤ known
+  pub few : given + known + (if cr then 1 else 0) ≤ front + 6 * (decoded - gone)
   pub marked : IfSome mark (IsMark known (decoded - gone) cr)
 
 -- What is left.

@@ -17,6 +17,8 @@ pub struct Mark {
 pub struct BaseMove {
     /// How many bytes it moved on.
     pub passed: usize,
+    /// How many of the known characters stand before it.
+    pub front: usize,
     /// How many characters were given since it.
     pub given: u128,
     /// The mark that stands behind it.
@@ -45,16 +47,17 @@ pub(crate) fn next_mark(mark: Option<Mark>, cr: bool, count: usize, passed: usiz
     Some(Mark { count, passed })
 }
 
-/// Where the base stands once so many characters more were given.
-pub(crate) fn base_behind(count: usize, given: u128, mark: Option<Mark>) -> BaseMove
+/// Where the base stands once so many characters more were given; so many of the known ones stood before it till then.
+pub(crate) fn base_behind(count: usize, front: usize, given: u128, mark: Option<Mark>) -> BaseMove
     requires { given + count < 2 ^ 128 }
-    ensures { result ≡ base_behind count given mark }
+    ensures { result ≡ base_behind count front given mark }
 {
     match mark {
         Some(mark) => {
             if mark.count < count {
                 return BaseMove {
                     passed: mark.passed,
+                    front: 0,
                     given: (count - mark.count) as u128,
                     mark: None,
                 };
@@ -65,13 +68,15 @@ pub(crate) fn base_behind(count: usize, given: u128, mark: Option<Mark>) -> Base
             };
             BaseMove {
                 passed: 0,
-                given: given + count as u128,
+                front: front.saturating_sub(count),
+                given: given + count.saturating_sub(front) as u128,
                 mark: Some(rest),
             }
         }
         None => BaseMove {
             passed: 0,
-            given: given + count as u128,
+            front: front.saturating_sub(count),
+            given: given + count.saturating_sub(front) as u128,
             mark: None,
         },
     }

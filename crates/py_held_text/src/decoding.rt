@@ -1,6 +1,7 @@
-ghost use Rattle.std.specs.Prelude.{◌≡◌, ◌++◌, ◌<◌, ◌≤◌, true, chars, length, IfOk, IfErr, OnOk, OnErr};
+ghost use Rattle.std.specs.Prelude.{◌≡◌, ◌++◌, ◌*◌, ◌<◌, ◌≤◌, ℕ, true, chars, length, IfOk, IfErr, OnOk, OnErr};
 ghost use Rattle.py_plain.specs.Handlers.{treatment, reads_texts};
-ghost use Rattle.py_plain.specs.Items.{characters_of};
+ghost use Rattle.py_plain.specs.Items.{walk_from, characters_of};
+ghost use Rattle.py_plain.specs.Units.{Unknown};
 ghost use Rattle.py_plain.specs.NewlineRule.{read_so_far, holds_after};
 ghost use Rattle.py_codec.specs.Answers.{text_of};
 ghost use Rattle.py_codec.specs.Decoding.{walk_here};
@@ -14,6 +15,9 @@ use py_text::{Coder, read_so_far};
 use std::alloc::{AllocError, Global};
 use std::marker::Brand;
 use std::sync::ledger::{Blank, Ledger};
+
+/// How many characters are asked for of bytes that stand alone: more than four bytes decode to, at six for each.
+const MORE_THAN_ALONE: usize = 25;
 
 /// The characters that some bytes begin with, up to the first place between two items where as many as are wanted were
 /// given, with a count of steps of any ledger.
@@ -48,6 +52,27 @@ fn counted_front<L: Ledger>(
         last,
         &mut steps,
     )
+}
+
+/// The characters that some bytes are by themselves, behind which none come: those up to a range that the handler refuses, if
+/// one does. `NoMemory` when out of memory.
+pub fn decoded_alone(alloc: Global, coder: Coder, bytes: &[u8]) -> Result<String, IoFault>
+    requires reads { reads_texts coder.errors ≡ true }
+    requires few { length bytes.now ≤ 4 }
+    ensures characters { IfOk result (λ text. (place : ℕ) →
+        text_of text ≡ characters_of (walk_from coder.encoding (treatment coder.errors coder.encoding) true Unknown place 0 bytes.now).items) }
+    ensures few { IfOk result (λ text. length (text_of text) ≤ 6 * length bytes.now) }
+    ensures memory { IfErr result (λ why. why ≡ IoFault.NoMemory) }
+{
+    let (text, _) = counted_front::<Brand>(
+        Blank::new(1),
+        alloc,
+        coder,
+        bytes,
+        MORE_THAN_ALONE,
+        true,
+    )?;
+    Ok(text)
 }
 
 /// Whether the universal rule changes nothing in a text: no CR stands in it.

@@ -2,6 +2,7 @@ ghost use Rattle.std.specs.Prelude.{◌≡◌, ◌++◌, ◌+◌, ◌-◌, ◌�
 ghost use Rattle.py_flat.specs.Limits.{greatest_place};
 ghost use Rattle.py_plain.specs.Handlers.{reads_texts};
 ghost use Rattle.py_plain.specs.NewlineRule.{read_all};
+ghost use Rattle.py_codec.specs.Answers.{text_of};
 ghost use Rattle.py_telling.specs.InHand.{surely_given};
 ghost use Rattle.py_telling.specs.ToldView.{IsTold, IsToldAmong};
 ghost use Rattle.py_held_text.specs.Held.{nothing_held, cleared, base_of, whole_of, held_anew};
@@ -25,19 +26,22 @@ use std::marker::Model;
 /// hasn't decoded. Of those that were decoded it has the last, from a base on, a boundary between items, and it counts the
 /// characters that were given since; so where the text stands is told by what is in hand. While no character was given
 /// since it was made or cleared, the base is where it began, and all can be read anew by other settings. The base moves
-/// on with what is given, so that what is in hand doesn't grow with the stream.
+/// on with what is given, so that what is in hand doesn't grow with the stream. Where the text was put inside an item, the
+/// base is behind that item, and the first of the known characters, the front, stand before the base.
 ///
 /// Contracts see the settings, the known characters, whether a CR is held behind them (under the universal rule, until
-/// the next character releases it), the bytes that were decoded since the base, the characters that were given since, the
-/// next base, whether a decoding knew that no bytes come behind those in hand, the bytes that aren't decoded with their
-/// place in the stream and the order that they are read in, and the room for more. Whatever bytes come behind those in
-/// hand, the text that is left stays: decoding moves it from bytes to characters, and only `give`, `clear` and `read_anew`
-/// change it. As long as no decoding knew that none come, the bytes since the base surely give the characters that were
-/// given since.
+/// the next character releases it), how many of them stand before the base, the bytes that were decoded since the base, the
+/// characters that were given since, the next base, whether a decoding knew that no bytes come behind those in hand, the
+/// bytes that aren't decoded with their place in the stream and the order that they are read in, and the room for more.
+/// Whatever bytes come behind those in hand, the text that is left stays: decoding moves it from bytes to characters, and
+/// only `give`, `clear`, `stand_behind` and `read_anew` change it. As long as no decoding knew that none come, the bytes
+/// since the base surely give the characters that were given since.
 #[derive(Drop)]
 pub struct HeldText {
     coder: Coder,
     known: KnownText,
+    /// How many of the known characters stand before the base.
+    front: usize,
     bytes: Vec<u8>,
     /// How many of the bytes stand before the base: they are removed when room is taken.
     gone: usize,
@@ -62,9 +66,9 @@ impl Model for HeldText {
 
     ghost Value = { HeldView };
 
-    ghost view = { λ h. view_of h.coder h.known h.gone h.decoded h.bytes.items h.given h.mark h.ended h.place (vec_capacity h.bytes - vec_len h.bytes) };
+    ghost view = { λ h. view_of h.coder h.known h.front h.gone h.decoded h.bytes.items h.given h.mark h.ended h.place (vec_capacity h.bytes - vec_len h.bytes) };
 
-    ghost invariant = { λ h. ((reads_texts h.coder.errors ≡ true) × KeepsSure (view_of h.coder h.known h.gone h.decoded h.bytes.items h.given h.mark h.ended h.place 0) × IsWalked h.coder.encoding h.coder.errors h.known.newline (drop h.gone h.bytes.items) h.given h.walked) × IsHeld (vec_len h.bytes) h.gone h.decoded h.place (length h.known.characters) h.given h.known.cr h.mark };
+    ghost invariant = { λ h. ((reads_texts h.coder.errors ≡ true) × KeepsSure (view_of h.coder h.known h.front h.gone h.decoded h.bytes.items h.given h.mark h.ended h.place 0) × IsWalked h.coder.encoding h.coder.errors h.known.newline (drop h.gone h.bytes.items) h.given h.walked) × IsHeld (vec_len h.bytes) h.gone h.decoded h.place (length h.known.characters) h.front h.given h.known.cr h.mark };
 }
 
 // Only how much is in hand, and not what: thousands of characters would hide all else.
@@ -131,6 +135,7 @@ impl HeldText {
         HeldText {
             coder,
             known: KnownText::new(alloc, newline),
+            front: 0,
             bytes: Vec::new(alloc),
             gone: 0,
             decoded: 0,
@@ -163,6 +168,13 @@ impl HeldText {
         ensures { result ≡ length self.now.known }
     {
         self.known.len()
+    }
+
+    /// How many of the known characters stand before the base: those that are left of the item that the text was put inside.
+    pub fn front(&self) -> usize
+        ensures { result ≡ self.now.front }
+    {
+        self.front
     }
 
     /// How many bytes in hand aren't decoded.
@@ -371,7 +383,8 @@ impl HeldText {
         ensures { GiveOutcome front self.old result self.new }
     {
         let text = self.known.give(alloc, front)?;
-        let base = base_behind(front.chars, self.given, self.mark);
+        let base = base_behind(front.chars, self.front, self.given, self.mark);
+        self.front = base.front;
         self.gone += base.passed;
         self.given = base.given;
         self.mark = base.mark;
@@ -383,7 +396,8 @@ impl HeldText {
     /// Where the text stands, by the bytes from the base on. Where a decoding knew that none come behind those in hand, it is what the text
     /// tells where none do; else it is that, whatever comes behind them, since these bytes surely give as many characters as were given since
     /// the base. Each of them is read once, or twice, and those that an earlier call read aren't read again: it goes on from where that one
-    /// came to. It takes no memory.
+    /// came to. As long as known characters stand before the base, none was given since, and the base is told, which isn't where the text
+    /// stands: the layer above tells that. It takes no memory.
     pub fn tell(&mut self) -> Told
         ensures told { IsToldAmong self.old.encoding self.old.handler self.old.newline self.old.ended (base_of self.old) self.old.given (whole_of self.old) result }
         ensures sure { self.old.ended ≡ false → self.old.given ≤ length (surely_given self.old.encoding self.old.handler self.old.newline false (whole_of self.old)) }
@@ -417,6 +431,7 @@ impl HeldText {
     {
         self.coder = coder;
         self.known.clear(newline);
+        self.front = 0;
         self.place -= (self.decoded - self.gone) as u64;
         self.decoded = self.gone;
         self.given = 0;
@@ -432,6 +447,7 @@ impl HeldText {
         ensures room { self.old.room ≤ self.new.room }
     {
         self.known.clear(self.known.newline());
+        self.front = 0;
         self.bytes.clear();
         self.gone = 0;
         self.decoded = 0;
@@ -440,5 +456,19 @@ impl HeldText {
         self.ended = false;
         self.walked = Walked::default();
         self.place = place;
+    }
+
+    /// Lets go of all that is in hand, and stands inside an item that ends at a byte place of the stream. The characters of a
+    /// text are known then, but for its first few, which are skipped: they are those of the item, and stand before the base. It
+    /// takes no memory.
+    pub fn stand_behind(&mut self, place: u64, text: String, skipped: TextFront)
+        requires near { place ≤ greatest_place }
+        requires skipped { IsFrontOf (text_of text) skipped }
+        ensures stands { self.new ≡ record (cleared self.old place self.new.room) { known = drop skipped.chars (text_of text); front = length (drop skipped.chars (text_of text)) } }
+        ensures room { self.old.room ≤ self.new.room }
+    {
+        self.clear(place);
+        self.known.put(text, skipped);
+        self.front = self.known.len();
     }
 }

@@ -114,6 +114,18 @@ impl KnownText {
         self.cr = false;
     }
 
+    /// Has a text known, but for a front of it, in place of all that was.
+    pub fn put(&mut self, text: String, skipped: TextFront)
+        requires { IsFrontOf (text_of text) skipped }
+        ensures { self.new ≡ record self.old { characters = drop skipped.chars (text_of text); cr = false } }
+    {
+        self.count = front_of(&text, usize::MAX).chars - skipped.chars;
+        self.text = text;
+        self.given = skipped.bytes;
+        self.searched = 0;
+        self.cr = false;
+    }
+
     /// Lets go of the bytes that were given, and of most of the room of a text that was much longer; n bytes more are to be
     /// read.
     fn compact(&mut self, more: usize) -> Result<(), AllocError>

@@ -14,6 +14,7 @@ mod reach;
 mod wanted;
 
 pub use base::{BaseMove, Mark};
+pub use decoding::decoded_alone;
 pub use held_stop::HeldStop;
 pub use held_text::{HeldText, drop_front};
 pub use py_blocks::TextFront as HeldFront;

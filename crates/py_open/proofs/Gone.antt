@@ -27,7 +27,7 @@ use Rattle.py_open.specs.Session.{SessionFile, OfText, OfBinary, SessionView, Te
 use Rattle.py_open.specs.Run.{Entry, IsRun, IsHistory, calls_of, replies_of, all_said}
 use Rattle.py_open.specs.Laws.{asks_name, SayAll, detached_text_by, detached_file_by, detached_reply, StaysDetached, FileStaysDetached}
 use Rattle.py_open.proofs.TextLeft.{call_again}
-use Rattle.py_open.proofs.Steps.{text_refused_by}
+use Rattle.py_open.proofs.Steps.{text_refuses_by, text_refused_by}
 use Rattle.py_open.proofs.Resting.{detached_refuses}
 
 -- Flat files.
@@ -78,7 +78,7 @@ asked_settled file call reply after asks is = absurd (cc)
 gone_settled : (getter : Bool) (file : TextFile) (call : TextFileCall) (reply : FileReply) (after : TextFile) → text.is_getter call ≡ getter → file.life ≡ life.Detached → text_file.Settled file call reply after → (reply ≡ detached_text_by getter file call) × (after ≡ file)
 gone_settled true file call reply after is gone settles = asked_settled file call reply after is settles
 gone_settled false file call reply after is gone settles =
-    subst (λ (refused : Option IoFault). text_file.SettledBy file call refused reply after) (text_refused_by file call life.Detached fault.Detached gone is refl refl) settles
+    subst (λ (refused : Option IoFault). text_file.SettledBy file call refused reply after) (text_refuses_by file call life.Detached fault.Detached gone is refl refl) settles
 
 text_works_none : (file : TextFile) (call : TextFileCall) → file.life ≡ life.Detached → text_file.does_work file call ≡ false
 text_works_none file call gone = rw gone refl
@@ -92,6 +92,11 @@ second_of : (first second : Bool) → first ≡ false → IsTrue (first || secon
 second_of false second none is = is
 second_of true second none is = absurd (cc)
 
+-- where memory ran out for the answer to a question for a name, all is as it was
+named_same : (file after : TextFile) (call : TextFileCall) → tells_name call ≡ true → text_file.LeftStarved file call after → after ≡ file
+named_same file after (text.SeekText sought whence) names left = absurd (cc)
+named_same file after call names left = left
+
 text_stays : (getter : Bool) (before : TextFile) (call : TextFileCall) (reply : FileReply) (waited faulted : Bool) (after : TextFile) → text.is_getter call ≡ getter → before.life ≡ life.Detached → TextFileStep before call reply waited faulted after → SaysOrStarves (tells_name call) (detached_text_by getter before call) reply × (after ≡ before)
 text_stays getter before call reply waited faulted after is gone (settled exact) =
     let left = gone_settled getter before call reply after is gone exact in
@@ -100,7 +105,7 @@ text_stays getter before call reply waited faulted after is gone (waited_for ros
 text_stays getter before call reply waited faulted after is gone (raw_faulted rose says left) = let wrong : true ≡ false = sym left.0 ∙ text_reaches_none before call gone in absurd (cc)
 text_stays getter before call reply waited faulted after is gone (out_of_memory says (inl left)) =
     let names : tells_name call ≡ true = second_of (text_file.reaches_raw before call) (tells_name call) (text_reaches_none before call gone) left.0 in
-    (subst (λ (named : Bool). SaysOrStarves named (detached_text_by getter before call) reply) (sym names) (inr says), left.1)
+    (subst (λ (named : Bool). SaysOrStarves named (detached_text_by getter before call) reply) (sym names) (inr says), named_same before after call names left.1)
 text_stays getter before call reply waited faulted after is gone (out_of_memory says (inr left)) = let wrong : true ≡ false = sym left.0 ∙ text_reaches_none before call gone in absurd (cc)
 
 file_stays : (getter : Bool) (before : FlatFile) (call : Call) (reply : FileReply) (waited faulted : Bool) (after : FlatFile) → is_getter (file_call call) ≡ getter → before.life ≡ life.Detached → FileStepBy getter before call reply waited faulted after → (reply ≡ detached_file_by getter before call) × (after ≡ before)

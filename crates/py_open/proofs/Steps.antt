@@ -1,5 +1,5 @@
 -- What one call of a session does, by its kind.
-use Rattle.std.proofs.Common.{inl, inr, ◌≡◌, ◌≢◌, ◌⊎◌, ◌||◌, ℕ, Bool, true, false, IsTrue, List, [], ◌∷◌, Option, Some, None, is_some, unwrap_or, refl, sym, ap, ◌∙◌, subst, if◌then◌else◌, arith}
+use Rattle.std.proofs.Common.{inl, inr, ◌≡◌, ◌≢◌, ◌⊎◌, ◌||◌, ℕ, zero, suc, pos, Bool, true, false, IsTrue, List, [], ◌∷◌, Option, Some, None, is_some, unwrap_or, refl, sym, ap, ◌∙◌, subst, if◌then◌else◌, arith}
 use Rattle.py_flat.specs.declared.fault.IoFault.{IoFault}
 use Rattle.py_flat.specs.declared.fault.IoFault.TheVariants as fault
 use Rattle.py_flat.specs.declared.life.Life.{Life}
@@ -9,7 +9,7 @@ use Rattle.py_flat.specs.Calls.{FileCall, Detach, FileReply, Done, Unwritten, Re
 use Rattle.py_flat.specs.Calls as binary
 use Rattle.py_flat.specs.FlatFile.{Abilities, FlatFile}
 use Rattle.py_flat.specs.Owed.{Owed}
-use Rattle.py_flat.specs.Refusals.{is_getter, life_fault}
+use Rattle.py_flat.specs.Refusals.{is_getter, life_fault, or_else, refused_if}
 use Rattle.py_flat.specs.AllowedStep.{settled, waited_for, raw_faulted, out_of_memory}
 use Rattle.py_flat.specs.BinaryStep.{Settled, BinaryStep}
 use Rattle.py_plain_text.specs.TextFile.{TextSettings, TextFile}
@@ -100,8 +100,12 @@ left_file was current before call reply a was_is is moves hands = refl
 
 -- What refuses a call of a text by its life.
 
-pub text_refused_by : (file : TextFile) (call : TextFileCall) (current : Life) (why : IoFault) → file.life ≡ current → text.is_getter call ≡ false → refusals.lets_through current call ≡ false → life_fault current ≡ Some why → refusals.refusal file call ≡ Some why
-text_refused_by file call current why is asks passes fails = rw (asks, is, passes, fails) refl
+pub text_refuses_by : (file : TextFile) (call : TextFileCall) (current : Life) (why : IoFault) → file.life ≡ current → text.is_getter call ≡ false → refusals.lets_through current call ≡ false → life_fault current ≡ Some why → refusals.refusal file call ≡ Some why
+text_refuses_by file call current why is asks passes fails = rw (asks, is, passes, fails) refl
+
+pub text_refused_by : (file : TextFile) (call : TextFileCall) (current : Life) (why : IoFault) → file.life ≡ current → text.is_getter call ≡ false → refusals.lets_through current call ≡ false → life_fault current ≡ Some why → over.refused_here file call ≡ Some why
+text_refused_by file (text.SeekText sought whence) current why is asks passes fails = text_refuses_by (record file { bytes = [] }) (text.SeekText sought whence) current why is asks passes fails
+text_refused_by file call current why is asks passes fails = text_refuses_by file call current why is asks passes fails
 
 -- What every call keeps.
 
@@ -300,11 +304,23 @@ smooth_step before call reply after step tells smooth had =
 
 -- Completeness.
 
+none_before : (first last earlier : Option IoFault) → (last ≡ None → earlier ≡ None) → or_else first last ≡ None → or_else first earlier ≡ None
+none_before (Some why) last earlier goes none = absurd (cc)
+none_before None last earlier goes none = goes none
+
+-- what nothing refuses isn't refused before the buffer is asked for anything
+text_accepts : (file : TextFile) (call : TextFileCall) → refusals.refusal file call ≡ None → over.refused_here file call ≡ None
+text_accepts file (text.SeekText sought (pos (suc (suc zero)))) none =
+    let call : TextFileCall = text.SeekText sought (pos 2) in
+    none_before (refusals.life_refusal file.life call) _ _ (none_before (refused_if (refusals.lacks file call) fault.Unsupported) _ _ (none_before (refusals.cookie_refusal file sought) (refusals.end_refusal file (pos 2)) None (λ end. refl))) none
+text_accepts file (text.SeekText sought whence) none = none
+text_accepts file call none = none
+
 text_completes : (getter : Bool) (before : TextState) (call : TextFileCall) (reply : FileReply) (after : TextState) → AnswersTextBy getter before call reply after → IsSmooth before.text.buffer.raw after.text.buffer.raw → CompletesText getter before call reply
 text_completes true before call reply after step smooth = step.says
 text_completes false before call reply after step smooth =
     let same : IsSmooth before.text.buffer.raw step.answered.text.buffer.raw = subst (λ (raw : Raw). IsSmooth before.text.buffer.raw raw) (call_raw before call reply after step) smooth in
-    λ accepted. (step.answers.complete accepted same.waits same.faults).answer
+    λ accepted. (step.answers.complete (text_accepts (state.file_of before) call accepted) same.waits same.faults).answer
 
 binary_completes : (getter : Bool) (before : Stream) (call : Call) (reply : FileReply) (after : Stream) → AnswersBy getter before (file_call call) reply after → IsSmooth before.raw after.raw → CompletesFile getter before call reply
 binary_completes true before call reply after step smooth = step.says

@@ -115,7 +115,7 @@ same_text file after bytes place encoding handler = record {
 
 -- Landing.
 
-only_back : (size : ℕ) (items : List Item) (ending : Ending) (cs : List ℕ) → only_item size items ending ≡ Some cs → (item : Item) × ((items ≡ item ∷ []) × (ending ≡ AtEnd) × (item.length ≡ size))
+pub only_back : (size : ℕ) (items : List Item) (ending : Ending) (cs : List ℕ) → only_item size items ending ≡ Some cs → (item : Item) × ((items ≡ item ∷ []) × (ending ≡ AtEnd) × (item.length ≡ size))
 only_back size [] ending cs is = absurd (cc)
 only_back size (item ∷ other ∷ items) ending cs is = absurd (cc)
 only_back size (item ∷ []) (AtRange start end) cs is = absurd (cc)
@@ -131,11 +131,11 @@ skipped_some cookie None is = absurd (cc)
 skipped_some cookie (Some cs) is = (cs, refl)
 
 -- what is read whole while more may come is read so finally
-record IsFinal (encoding : coding.Encoding) (treat : Treatment) (order : Order) (place : ℕ) (bytes : List ℕ) (items : List Item) : Type 0 where
-  items_are : (walk_at encoding treat true order place bytes).items ≡ items
-  ending_is : (walk_at encoding treat true order place bytes).ending ≡ AtEnd
+pub record IsFinal (encoding : coding.Encoding) (treat : Treatment) (order : Order) (place : ℕ) (bytes : List ℕ) (items : List Item) : Type 0 where
+  pub items_are : (walk_at encoding treat true order place bytes).items ≡ items
+  pub ending_is : (walk_at encoding treat true order place bytes).ending ≡ AtEnd
 
-final_by : (encoding : coding.Encoding) (treat : Treatment) → LooksAtRange treat → (last : Bool) (order : Order) (place : ℕ) (bytes : List ℕ) (items : List Item) → (walk_at encoding treat last order place bytes).items ≡ items → (walk_at encoding treat last order place bytes).ending ≡ AtEnd → IsFinal encoding treat order place bytes items
+pub final_by : (encoding : coding.Encoding) (treat : Treatment) → LooksAtRange treat → (last : Bool) (order : Order) (place : ℕ) (bytes : List ℕ) (items : List Item) → (walk_at encoding treat last order place bytes).items ≡ items → (walk_at encoding treat last order place bytes).ending ≡ AtEnd → IsFinal encoding treat order place bytes items
 final_by encoding treat looks true order place bytes items are ending = record { items_are = are; ending_is = ending }
 final_by encoding treat looks false order place bytes items are ending =
     let first : Walk = walk_at encoding treat false order place bytes in

@@ -17,7 +17,7 @@ use Rattle.py_plain_text.specs.TextWriting.{written_bytes, written_refusal}
 use Rattle.py_plain_text.specs.TextCalls.{TextFileCall, Read, ReadLine, WriteText, SeekText, Tell, Reconfigure, SetChunkSize, Flush, Close, Detach, ChunkSize, Readable, Writable, Seekable, Closed, Encoding, Errors, OtherKind, is_own}
 use Rattle.py_plain_text.specs.TextRefusals.{refusal, dirty_refusal, encode_error}
 use Rattle.py_plain_text.specs.TextExact.{in_life, sought_cookie, carried_out}
-use Rattle.py_plain_text.specs.TextAllowed.{DetachesIn, Accepted, SettledBy, WaitedBy, FailsWriting, life_after_fault, TextFileStep}
+use Rattle.py_plain_text.specs.TextAllowed.{DetachesIn, Accepted, SettledBy, WaitedBy, FailsWriting, life_after_fault, LeftStarved, TextFileStep}
 use Rattle.py_plain_text.specs.CookieLaws.{StandsInText}
 use Rattle.py_plain_text.proofs.Standing.{LetThrough, or_none, test_none, not_false, all_none, at_a_byte, in_a_life, same_text, taken_stands, write_stands, call_stands}
 
@@ -120,6 +120,12 @@ dead_after Encoding = refl
 dead_after Errors = refl
 dead_after OtherKind = refl
 
+starved_stands : (file after : TextFile) → StandsInText file → (call : TextFileCall) → LeftStarved file call after → StandsInText after
+starved_stands file after stands (SeekText bytes whence) (inl same) = as_before file after stands same
+starved_stands file after stands (SeekText bytes whence) (inr at_start) =
+    subst StandsInText (sym at_start.1) (at_a_byte file stands (start_of (sought_cookie file bytes whence)) (order_of (sought_cookie file bytes whence).dec_flags))
+starved_stands file after stands call same = as_before file after stands same
+
 pub step_stands : (before : TextFile) (call : TextFileCall) (reply : FileReply) (waited faulted : Bool) (after : TextFile) → StandsInText before → TextFileStep before call reply waited faulted after → is_live after.life ≡ true → StandsInText after
 step_stands before call reply waited faulted after stands (settled settles) lives = settled_stands before stands call (refusal before call) refl reply after settles
 step_stands before call reply waited faulted after stands (waited_for rose waits) lives =
@@ -127,5 +133,5 @@ step_stands before call reply waited faulted after stands (waited_for rose waits
     let free = and_parts (is_none (refusal before call)) (not (is_own call)) works.1 in
     waited_stands before stands call (is_let_through (refusal before call) free.0) reply after waits.1
 step_stands before call reply waited faulted after stands (raw_faulted rose says fails) lives = not_live before after call (life_after_fault call) (dead_after call) fails.1 lives
-step_stands before call reply waited faulted after stands (out_of_memory says (inl same)) lives = as_before before after stands same.1
+step_stands before call reply waited faulted after stands (out_of_memory says (inl left)) lives = starved_stands before after stands call left.1
 step_stands before call reply waited faulted after stands (out_of_memory says (inr fails)) lives = not_live before after call life.Failed refl fails.1.1 lives

@@ -1,5 +1,5 @@
 -- The exact step of a text is allowed.
-use Rattle.std.proofs.Common.{◌≡◌, ℕ, Bool, true, false, List, [], Option, Some, None, if◌then◌else◌, refl, ap}
+use Rattle.std.proofs.Common.{◌≡◌, inl, ℕ, Bool, true, false, List, [], Option, Some, None, if◌then◌else◌, refl, ap}
 use Rattle.py_flat.specs.declared.fault.IoFault.{IoFault}
 use Rattle.py_flat.specs.declared.life.Life.{Life}
 use Rattle.py_flat.specs.declared.life.Life.TheVariants as life
@@ -9,7 +9,7 @@ use Rattle.py_plain_text.specs.TextFile.{TextFile}
 use Rattle.py_plain_text.specs.TextCalls.{TextFileCall, Read, ReadLine, WriteText, SeekText, Tell, Reconfigure, SetChunkSize, Flush, Close, Detach, ChunkSize, Readable, Writable, Seekable, Closed, Encoding, Errors, OtherKind}
 use Rattle.py_plain_text.specs.TextRefusals.{refusal}
 use Rattle.py_plain_text.specs.TextExact.{handed_place, carried_out, answered, exact}
-use Rattle.py_plain_text.specs.TextAllowed.{DetachesIn, Accepted, SettledBy, Settled}
+use Rattle.py_plain_text.specs.TextAllowed.{DetachesIn, Accepted, SettledBy, Settled, LeftStarved}
 
 -- no bytes stand anywhere
 nothing_stands : (bytes : List ℕ) (seekable : Bool) (at : ℕ) → StandAt [] seekable (if seekable then Some at else None) bytes
@@ -56,3 +56,8 @@ settled-by file call None reply after is = accepted file call reply after is
 -- the exact step settles a call
 pub exact-settles : (file : TextFile) (call : TextFileCall) (reply : FileReply) (after : TextFile) → (reply, after) ≡ exact file call → Settled file call reply after
 exact-settles file call reply after is = settled-by file call (refusal file call) reply after is
+
+-- what is as it was may be left where memory ran out
+pub leaves_starved : (file after : TextFile) (call : TextFileCall) → after ≡ file → LeftStarved file call after
+leaves_starved file after (SeekText bytes whence) same = inl same
+leaves_starved file after call same = same

@@ -125,10 +125,18 @@ Faulted file call after = IsTrue (reaches_raw file call) × FailsWriting file ca
 abbrev pub FailsMidway : TextFile → TextFileCall → TextFile → Type 0
 FailsMidway file call after = (file.can.writable ≡ true) × FailsWriting file call life.Failed after
 
+-- running out of memory leaves all as before; but where it ran out while a seek by a cookie that skips read the bytes fed, and once more on the
+-- way back to where the text stood, the text stands at the cookie's start
+abbrev pub LeftStarved : TextFile → TextFileCall → TextFile → Type 0
+LeftStarved file (SeekText bytes whence) after =
+    let sought = sought_cookie file bytes whence in
+    (after ≡ file) ⊎ (IsTrue (skips sought) × (after ≡ placed file (start_place sought)))
+LeftStarved file call after = after ≡ file
+
 -- running out of memory leaves all as before, or a text that failed in the middle; the answer to a question for a name wants memory too
 abbrev pub Starved : TextFile → TextFileCall → TextFile → Type 0
 Starved file call after =
-    (IsTrue (reaches_raw file call || tells_name call) × (after ≡ file)) ⊎ (IsTrue (reaches_raw file call) × FailsMidway file call after)
+    (IsTrue (reaches_raw file call || tells_name call) × LeftStarved file call after) ⊎ (IsTrue (reaches_raw file call) × FailsMidway file call after)
 
 -- the allowed step of a text
 abbrev pub TextFileStep : TextFile → TextFileCall → FileReply → Bool → Bool → TextFile → Type 0

@@ -1,6 +1,6 @@
 -- What a text asks its buffer for: no chunk that it needn't.
 use Rattle.std.proofs.Common.{◌≡◌, ℕ, zero, suc, ◌+◌, ◌≤◌, ◌<◌, inr, min, max, Bool, true, false, ◌||◌, nat_le, nat_eq, if◌then◌else◌, List, [], ◌∷◌, ◌++◌, length, take, Option, Some, None, refl, sym, ap, subst, ◌∙◌, arith}
-use Rattle.std.proofs.lemmas.List.{append-nil, length-take, take-append-le}
+use Rattle.std.proofs.lemmas.List.{append-nil, length-append, length-take, take-append-le}
 use Rattle.std.proofs.lemmas.Bool.{leb-false}
 use Rattle.py_flat.specs.declared.life.Life.TheVariants as life
 use Rattle.py_flat.specs.Bytes.{left_at}
@@ -20,8 +20,8 @@ use Rattle.py_held_text.specs.Decodes.{IsDrained}
 use Rattle.py_held_text.specs.Finding.{enough}
 use Rattle.py_read_text.specs.Waiting.{bytes_between}
 use Rattle.py_read_text.specs.Ahead.{known_at, IsLacking, LeavesOpen, AsksAsNeeded}
-use Rattle.py_read_text.specs.Knowing.{TextView, from_place, shown_file, IsText}
-use Rattle.py_read_text.specs.Reading.{call_of, Reads, KeepsPlace, Brings, GathersAsNeeded}
+use Rattle.py_read_text.specs.Knowing.{TextView, from_place, front_of, shown_file, IsText}
+use Rattle.py_read_text.specs.Reading.{call_of, Calls, KeepsPlace, Brings, GathersAsNeeded}
 use Rattle.py_read_text.proofs.Following.{so_far_empty}
 use Rattle.py_read_text.proofs.Steps.{Tied, rest_is}
 use Rattle.py_read_text.proofs.Answering.{tied_of}
@@ -82,8 +82,10 @@ leaves_open text asked forth tied short drained =
     let nothing : IsFrontOf [] (left_at bytes text.buffer.place) = (left_at bytes text.buffer.place, refl) in
     let same : bytes_between bytes text.at text.buffer.place ++ [] ≡ bytes_between bytes text.at text.buffer.place = append-nil (bytes_between bytes text.at text.buffer.place) in
     let sure : length (left_so_far text.held []).characters ≡ length known = ap length (so_far_empty text.held drained.items) in
-    let few : length (left_so_far (from_place text.settings text.at) (bytes_between bytes text.at text.buffer.place)).characters ≤ text.taken + length known =
-    subst (λ (all : List ℕ). length (left_so_far (from_place text.settings text.at) all).characters ≤ text.taken + length known) same (omega (arith, tied.knows.shows [] nothing, sure)) in
+    let front : List ℕ = front_of text.settings bytes text.front in
+    let few : length (front ++ (left_so_far (from_place text.settings text.at) (bytes_between bytes text.at text.buffer.place)).characters) ≤ text.taken + length known =
+    subst (λ (all : List ℕ). length (front ++ (left_so_far (from_place text.settings text.at) all).characters) ≤ text.taken + length known) same
+    (omega (arith, tied.knows.shows [] nothing, sure, length-append front (left_so_far (from_place text.settings text.at) (bytes_between bytes text.at text.buffer.place ++ [])).characters)) in
     let count : ℕ = known_at (shown_file text) text.buffer.place in
     let behind : List ℕ = read_all text.held.newline text.held.cr (characters_of (ahead text.held true (left_at bytes text.buffer.place)).items) in
     record {
@@ -95,13 +97,13 @@ leaves_open text asked forth tied short drained =
 -- Chunks.
 
 -- a chunk that came for a call that was open still
-pub needs_chunk : (old mid new : TextView) (asked : Wanted) → old.buffer.life ≡ life.Live → old.buffer.can.readable ≡ true → KeepsPlace old mid → Reads old.buffer false false mid.buffer → IsText mid.buffer mid.held mid.at mid.taken mid.settings → enough asked mid.held.newline mid.held.known ≡ None → IsDrained false mid.held → Brings mid new → GathersAsNeeded old asked new
-needs_chunk old mid new asked live can place reads is short drained came told =
+pub needs_chunk : (old mid new : TextView) (asked : Wanted) → old.buffer.life ≡ life.Live → old.buffer.can.readable ≡ true → KeepsPlace old mid → Calls old.buffer false false mid.buffer → old.buffer.place ≤ mid.buffer.place → IsText mid.buffer mid.held mid.front mid.at mid.taken mid.dirty mid.settings → enough asked mid.held.newline mid.held.known ≡ None → IsDrained false mid.held → Brings mid new → GathersAsNeeded old asked new
+needs_chunk old mid new asked live can place reads further is short drained came told =
     let tells = tells_still old.buffer.raw mid.buffer.raw reads.keeps.raw ∙ told in
     let tied : Tied mid = tied_of mid (reads.life_is ∙ live) (ap (λ (able : _). able.readable) reads.keeps.can ∙ can) is tells in
     inr (record {
       from = mid.buffer.place;
-      forth = omega (arith, reads.forth, is.forth, is.stands, place.at);
+      forth = omega (arith, further, is.forth, is.stands, place.at);
       within = omega (arith, came.place, came.few, ap (λ (settings : _). settings.chunk_size) place.settings);
       leaves = subst (λ (file : TextFile). LeavesOpen file (call_of asked) mid.buffer.place) (same_file old mid (reads.bytes told) reads.keeps.can reads.life_is place) (leaves_open mid asked (omega (arith, is.forth, is.stands)) tied short drained);
     })

@@ -1,6 +1,6 @@
 -- What a text answers of what was gathered.
-use Rattle.std.proofs.Common.{◌≡◌, ◌≢◌, ℕ, ◌+◌, ◌≤◌, max, Bool, true, false, ◌||◌, List, [], ◌++◌, length, take, Option, Some, None, IfSome, String, Ok, Err, refl, sym, ap, ◌∙◌, subst, arith}
-use Rattle.std.proofs.lemmas.List.{append-nil, length-take, length-take-le, length-drop, take_all, drop_all}
+use Rattle.std.proofs.Common.{◌≡◌, ◌≢◌, ℕ, ◌+◌, ◌≤◌, max, Bool, true, false, ◌||◌, List, [], ◌∷◌, ◌++◌, length, take, Option, Some, None, IfSome, String, Ok, Err, refl, sym, ap, ◌∙◌, subst, arith}
+use Rattle.std.proofs.lemmas.List.{append-nil, length-append, length-take, length-take-le, length-drop, take_all, drop_all}
 use Rattle.std.specs.declared.alloc.Global.{Global}
 use Rattle.py_flat.specs.declared.fault.IoFault.TheVariants as fault
 use Rattle.py_flat.specs.declared.life.Life.TheVariants as life
@@ -25,7 +25,7 @@ use Rattle.py_held_text.specs.Finding.{answer_of, enough, enough_before}
 use Rattle.py_read_text.specs.declared.read_text.Answer.TheVariants as answer
 use Rattle.py_read_text.specs.Waiting.{bytes_between, ShowsAll}
 use Rattle.py_read_text.specs.Answers.{IsReplyTo, PlaceMoves, BlamesTaken, ReadsOneLine, TextBlames}
-use Rattle.py_read_text.specs.Knowing.{TextView, place_of, shown_file, from_place, KnowsTold, IsText}
+use Rattle.py_read_text.specs.Knowing.{TextView, place_of, shown_file, from_place, front_of, KnowsTold, IsText}
 use Rattle.py_read_text.specs.Reading.{call_of, size_of, asks_all, ComesLast, RefusesAt, RangeInHand, IsAtEnd, HoldsNothing, GiveOutcome, GiveAllOutcome, Finishes}
 use Rattle.py_read_text.proofs.Following.{all_none, so_far_empty}
 use Rattle.py_read_text.proofs.Ranges.{asks_past_range}
@@ -36,10 +36,10 @@ use Rattle.py_read_text.proofs.Steps.{Tied, step_enough, step_before, step_refus
 
 -- what holds of every text, of one as it is seen
 abbrev pub Holds : TextView → Type 0
-Holds text = IsText text.buffer text.held text.at text.taken text.settings
+Holds text = IsText text.buffer text.held text.front text.at text.taken text.dirty text.settings
 
 -- a live text that reads is tied to the bytes below, where its buffer tells
-pub tied_of : (text : TextView) → text.buffer.life ≡ life.Live → text.buffer.can.readable ≡ true → IsText text.buffer text.held text.at text.taken text.settings → WhereShown text.buffer (Tied text)
+pub tied_of : (text : TextView) → text.buffer.life ≡ life.Live → text.buffer.can.readable ≡ true → IsText text.buffer text.held text.front text.at text.taken text.dirty text.settings → WhereShown text.buffer (Tied text)
 tied_of text live reads is = λ told. record { live = live; reads = reads; rule = (is.reads_by reads).newline; knows = is.told told live reads }
 
 -- The place.
@@ -173,7 +173,7 @@ finishes_last old new asked count text rule tied none whole end sized within is 
     (λ told. step_last old asked count (tied told) (last_at_end old none whole (end told)) sized within is)
 
 -- a read of all goes to the end
-pub finishes_all : (old new : TextView) (text : String Global) → WhereShown old.buffer (Tied old) → IsText old.buffer old.held old.at old.taken old.settings → old.held.bytes ≡ [] → old.held.cr ≡ false → IsAtEnd old.buffer → GiveAllOutcome old (Ok text) new → Finishes old (Characters None) (Ok (answer.Whole text)) new
+pub finishes_all : (old new : TextView) (text : String Global) → WhereShown old.buffer (Tied old) → IsText old.buffer old.held old.front old.at old.taken old.dirty old.settings → old.held.bytes ≡ [] → old.held.cr ≡ false → IsAtEnd old.buffer → GiveAllOutcome old (Ok text) new → Finishes old (Characters None) (Ok (answer.Whole text)) new
 finishes_all old new text tied is none whole end gave =
     let forth : old.at ≤ old.buffer.place = omega (arith, is.forth, is.stands) in
     record {
@@ -207,19 +207,24 @@ all_of known count within is = omega (arith, ap length is, length-take-le count 
 pub some_of : (known : List ℕ) (count : ℕ) → count ≡ length known → count ≢ 0 → known ≢ []
 some_of known count size some = λ none. some (size ∙ ap length none)
 
+pub none_of : (known : List ℕ) (count : ℕ) → count ≡ length known → count ≡ 0 → known ≡ []
+none_of [] count size none = refl
+none_of (c ∷ cs) count size none = absurd (omega (arith, size, none))
+
 -- Where the raw would have blocked.
 
 -- where all known characters were given, nothing that is sure is held back
-pub shows_all : (text : TextView) → text.at ≤ text.buffer.place → text.held.known ≡ [] → IsDrained false text.held → KnowsTold text.settings (flat_of text.buffer).bytes text.buffer.place text.at text.taken text.held → ShowsAll (shown_file text) text.buffer.place
+pub shows_all : (text : TextView) → text.at ≤ text.buffer.place → text.held.known ≡ [] → IsDrained false text.held → KnowsTold text.settings (flat_of text.buffer).bytes text.buffer.place text.front text.at text.taken text.held → ShowsAll (shown_file text) text.buffer.place
 shows_all text forth none drained knows =
     let bytes : List ℕ = (flat_of text.buffer).bytes in
     let left : List ℕ = left_at bytes text.buffer.place in
     let nothing : IsFrontOf [] left = (left, refl) in
     let same : bytes_between bytes text.at text.buffer.place ++ [] ≡ bytes_between bytes text.at text.buffer.place = append-nil (bytes_between bytes text.at text.buffer.place) in
+    let front : List ℕ = front_of text.settings bytes text.front in
     let sure : length (left_so_far text.held []).characters ≡ 0 = ap length (so_far_empty text.held drained.items ∙ none) in
     record {
       forth = forth;
-      characters = subst (λ (all : List ℕ). length (left_so_far (from_place text.settings text.at) all).characters ≤ text.taken) same (omega (arith, knows.shows [] nothing, sure));
+      characters = subst (λ (all : List ℕ). length (front ++ (left_so_far (from_place text.settings text.at) all).characters) ≤ text.taken) same (omega (arith, knows.shows [] nothing, sure, length-append front (left_so_far (from_place text.settings text.at) (bytes_between bytes text.at text.buffer.place ++ [])).characters));
       refusal = subst (λ (all : List ℕ). (left_so_far (from_place text.settings text.at) all).refusal ≡ None) same (knows.sound [] nothing drained.refusal);
     }
 
@@ -240,7 +245,7 @@ stays_unready (Characters None) place far = refl
 stays_unready (Characters (Some size)) place far = refl
 stays_unready (Line limit) place far = refl
 
-pub finishes_unready : (text : TextView) (asked : Wanted) → text.buffer.life ≡ life.Live → text.buffer.can.readable ≡ true → IsText text.buffer text.held text.at text.taken text.settings → text.held.known ≡ [] → IsDrained false text.held → HoldsNothing text.buffer → Finishes text asked (Ok answer.NotReady) text
+pub finishes_unready : (text : TextView) (asked : Wanted) → text.buffer.life ≡ life.Live → text.buffer.can.readable ≡ true → IsText text.buffer text.held text.front text.at text.taken text.dirty text.settings → text.held.known ≡ [] → IsDrained false text.held → HoldsNothing text.buffer → Finishes text asked (Ok answer.NotReady) text
 finishes_unready text asked live reads is none drained holds =
     let tied = tied_of text live reads is in
     record {
@@ -256,7 +261,7 @@ finishes_unready text asked live reads is none drained holds =
       hides = λ waits. (holds, λ told. shows_all text (omega (arith, is.forth, is.stands)) none drained (tied told).knows);
     }
 
-pub finishes_short : (old new : TextView) (asked : Wanted) (count : ℕ) (text : String Global) → old.buffer.life ≡ life.Live → old.buffer.can.readable ≡ true → IsText old.buffer old.held old.at old.taken old.settings → enough asked old.held.newline old.held.known ≡ None → IsDrained false old.held → HoldsNothing old.buffer → count ≡ length old.held.known → old.held.known ≢ [] → GiveOutcome old count true (Ok text) new → Finishes old asked (Ok (answer.Short text)) new
+pub finishes_short : (old new : TextView) (asked : Wanted) (count : ℕ) (text : String Global) → old.buffer.life ≡ life.Live → old.buffer.can.readable ≡ true → IsText old.buffer old.held old.front old.at old.taken old.dirty old.settings → enough asked old.held.newline old.held.known ≡ None → IsDrained false old.held → HoldsNothing old.buffer → count ≡ length old.held.known → old.held.known ≢ [] → GiveOutcome old count true (Ok text) new → Finishes old asked (Ok (answer.Short text)) new
 finishes_short old new asked count text live reads is short drained holds size some gave =
     let known : List ℕ = old.held.known in
     let tied = tied_of old live reads is in
@@ -275,5 +280,5 @@ finishes_short old new asked count text live reads is short drained holds size s
       told = λ told. subst (λ (cs : List ℕ). TextFileStep (shown_file old) (call_of asked) (Text cs) true false (shown_file new)) (sym all)
           (subst (TextFileStep (shown_file old) (call_of asked) (Text known) true false) (sym (gave_file old new count true text gave ∙ ap (λ (n : ℕ). after_taking (shown_file old) n true) size)) (step_waits old asked (tied told) short some));
       hides = λ waits. subst (λ (view : TextView). HoldsNothing view.buffer × WhereShown old.buffer (ShowsAll (shown_file view) view.buffer.place)) (sym gave.1)
-          (holds, λ told. shows_all left (omega (arith, is.forth, is.stands)) none (record { items = drained.items; refusal = drained.refusal; none = drained.none }) (knows_given old.settings (flat_of old.buffer).bytes old.buffer.place old.at old.taken old.held count new.held.room (omega (arith, size)) (tied told).knows));
+          (holds, λ told. shows_all left (omega (arith, is.forth, is.stands)) none (record { items = drained.items; refusal = drained.refusal; none = drained.none }) (knows_given old.settings (flat_of old.buffer).bytes old.buffer.place old.front old.at old.taken old.held count new.held.room (omega (arith, size)) is.has (tied told).knows));
     }

@@ -73,7 +73,7 @@ abbrev with_buffer : TextView → Buffer → TextView
 with_buffer text buffer = record text { buffer = buffer }
 
 stays_at : (text : TextView) (after : Buffer) → KeepsPlace text (with_buffer text after)
-stays_at text after = record { at = refl; taken = refl; dirty = refl; settings = refl }
+stays_at text after = record { front = refl; at = refl; taken = refl; dirty = refl; settings = refl }
 
 -- where the buffer stands where it stood, so does the place behind what the text owes, which is nothing
 stands_still : (text : TextView) (after : Buffer) → after.place ≡ text.buffer.place → behind_own (over_of (with_buffer text after)) ≡ behind_own (over_of text)
@@ -185,7 +185,8 @@ flush_so old after result live is answers =
       lines = tt;
       blames = tt;
       tells = tt;
-      joined = joined_of (with_buffer old after) (text_flushed old.buffer after old.held old.at old.taken old.settings result live answers is);
+      seeks = tt;
+      joined = joined_of (with_buffer old after) (text_flushed old.buffer after old.held old.front old.at old.taken old.dirty old.settings result live answers is);
       owes = owes_none (over_of old) Flush (over_of (with_buffer old after)) tt (passes_behind old.buffer.raw after.raw old.buffer.owed.bytes after.owed.bytes [] (front_passes old.buffer after answers.owes));
       lays = λ told. lays_owed (over_of old) [] after.raw.bytes (joined_of old is) (lays_alone old.buffer after is.owes answers.lays told);
       starves = flush_starves old after result answers;
@@ -320,7 +321,8 @@ close_so old after result live is answers =
       lines = tt;
       blames = tt;
       tells = tt;
-      joined = joined_of (with_buffer old after) (text_closed old.buffer after old.held old.at old.taken old.settings result live answers is);
+      seeks = tt;
+      joined = joined_of (with_buffer old after) (text_closed old.buffer after old.held old.front old.at old.taken old.dirty old.settings result live answers is);
       owes = owes_none (over_of old) Close (over_of (with_buffer old after)) tt (passes_behind old.buffer.raw after.raw old.buffer.owed.bytes after.owed.bytes [] (front_passes old.buffer after answers.owes));
       lays = λ told. lays_owed (over_of old) [] after.raw.bytes (joined_of old is) (lays_alone old.buffer after is.owes answers.lays told);
       starves = close_starves old after result answers;

@@ -5,7 +5,7 @@ use Rattle.py_flat.specs.declared.fault.IoFault.{IoFault}
 use Rattle.py_flat.specs.declared.fault.IoFault.TheVariants as fault
 use Rattle.py_flat.specs.declared.life.Life.TheVariants as life
 use Rattle.py_flat.specs.Calls.{Read1, Bytes, NotReady, Refused}
-use Rattle.py_plain_text.specs.TextFile.{TextSettings}
+use Rattle.py_plain_text.specs.TextFile.{Front, TextSettings}
 use Rattle.py_stream.specs.Replies.{bytes_reply}
 use Rattle.py_stream.specs.Buffer.{Buffer, flat_of, AnswersAsBuffer}
 use Rattle.py_flat.specs.Bytes.{left_at}
@@ -18,22 +18,22 @@ use Rattle.py_read_text.proofs.Fetching.{reads_live}
 use Rattle.py_read_text.proofs.Holding.{text_room, text_read_nothing, text_brought}
 
 -- a reading of a chunk of a text's buffer
-pub read_of : (before after : Buffer) (held : HeldView) (at taken : ℕ) (settings : TextSettings) (result : Result (Option (Vec ℕ Global)) IoFault) → before.life ≡ life.Live → before.can.readable ≡ true → IsText before held at taken settings → AnswersAsBuffer before (Read1 (Some settings.chunk_size)) (bytes_reply result) after → ReadOutcome before settings.chunk_size result after
-read_of before after held at taken settings result live reads is answers = reads_live before after settings.chunk_size result (record { live = live; reads = reads; buffered = is.buffered; kept = is.kept }) is.asks answers
+pub read_of : (before after : Buffer) (held : HeldView) (front : Option Front) (at taken : ℕ) (dirty : Bool) (settings : TextSettings) (result : Result (Option (Vec ℕ Global)) IoFault) → before.life ≡ life.Live → before.can.readable ≡ true → IsText before held front at taken dirty settings → AnswersAsBuffer before (Read1 (Some settings.chunk_size)) (bytes_reply result) after → ReadOutcome before settings.chunk_size result after
+read_of before after held front at taken dirty settings result live reads is answers = reads_live before after settings.chunk_size result (record { live = live; reads = reads; buffered = is.buffered; kept = is.kept }) is.asks answers
 
-pub gave_of : (before after : Buffer) (held : HeldView) (at taken : ℕ) (settings : TextSettings) (part : Vec ℕ Global) → before.life ≡ life.Live → before.can.readable ≡ true → IsText before held at taken settings → AnswersAsBuffer before (Read1 (Some settings.chunk_size)) (Bytes part.items) after → Gave before settings.chunk_size part.items after
-gave_of before after held at taken settings part live reads is answers = read_of before after held at taken settings (Ok (Some part)) live reads is answers
+pub gave_of : (before after : Buffer) (held : HeldView) (front : Option Front) (at taken : ℕ) (dirty : Bool) (settings : TextSettings) (part : Vec ℕ Global) → before.life ≡ life.Live → before.can.readable ≡ true → IsText before held front at taken dirty settings → AnswersAsBuffer before (Read1 (Some settings.chunk_size)) (Bytes part.items) after → Gave before settings.chunk_size part.items after
+gave_of before after held front at taken dirty settings part live reads is answers = read_of before after held front at taken dirty settings (Ok (Some part)) live reads is answers
 
-pub waited_of : (before after : Buffer) (held : HeldView) (at taken : ℕ) (settings : TextSettings) → before.life ≡ life.Live → before.can.readable ≡ true → IsText before held at taken settings → AnswersAsBuffer before (Read1 (Some settings.chunk_size)) NotReady after → Waited before after
-waited_of before after held at taken settings live reads is answers = read_of before after held at taken settings (Ok None) live reads is answers
+pub waited_of : (before after : Buffer) (held : HeldView) (front : Option Front) (at taken : ℕ) (dirty : Bool) (settings : TextSettings) → before.life ≡ life.Live → before.can.readable ≡ true → IsText before held front at taken dirty settings → AnswersAsBuffer before (Read1 (Some settings.chunk_size)) NotReady after → Waited before after
+waited_of before after held front at taken dirty settings live reads is answers = read_of before after held front at taken dirty settings (Ok None) live reads is answers
 
-pub failed_of : (before after : Buffer) (held : HeldView) (at taken : ℕ) (settings : TextSettings) (why : IoFault) → before.life ≡ life.Live → before.can.readable ≡ true → IsText before held at taken settings → AnswersAsBuffer before (Read1 (Some settings.chunk_size)) (Refused why) after → ReadOutcome before settings.chunk_size (Err why) after
-failed_of before after held at taken settings why live reads is answers = read_of before after held at taken settings (Err why) live reads is answers
+pub failed_of : (before after : Buffer) (held : HeldView) (front : Option Front) (at taken : ℕ) (dirty : Bool) (settings : TextSettings) (why : IoFault) → before.life ≡ life.Live → before.can.readable ≡ true → IsText before held front at taken dirty settings → AnswersAsBuffer before (Read1 (Some settings.chunk_size)) (Refused why) after → ReadOutcome before settings.chunk_size (Err why) after
+failed_of before after held front at taken dirty settings why live reads is answers = read_of before after held front at taken dirty settings (Err why) live reads is answers
 
 -- no byte came
-pub kept_so : (before after : Buffer) (held new : HeldView) (at taken : ℕ) (settings : TextSettings) (waited faulted : Bool) → before.life ≡ life.Live → GaveNothing before waited faulted after → new ≡ record held { room = new.room } → IsText before held at taken settings → IsText after new at taken settings
-kept_so before after held new at taken settings waited faulted live nothing room is =
-    subst (λ (own : HeldView). IsText after own at taken settings) (sym room) (text_room after held at taken new.room settings (text_read_nothing before after held at taken settings waited faulted live nothing.reads nothing.place is))
+pub kept_so : (before after : Buffer) (held new : HeldView) (front : Option Front) (at taken : ℕ) (dirty : Bool) (settings : TextSettings) (waited faulted : Bool) → before.life ≡ life.Live → GaveNothing before waited faulted after → new ≡ record held { room = new.room } → IsText before held front at taken dirty settings → IsText after new front at taken dirty settings
+kept_so before after held new front at taken dirty settings waited faulted live nothing room is =
+    subst (λ (own : HeldView). IsText after own front at taken dirty settings) (sym room) (text_room after held front at taken new.room dirty settings (text_read_nothing before after held front at taken dirty settings waited faulted live nothing.reads nothing.place is))
 
 -- a part that is empty is nothing
 pub gave_none : (before after : Buffer) (size : ℕ) (part : List ℕ) → Gave before size part after → part ≡ [] → GaveNothing before false false after
@@ -47,16 +47,16 @@ at_end before after size part gave none = λ told.
     ap (λ (bytes : List ℕ). left_at bytes after.place) (gave.reads.bytes was) ∙ (ap (left_at (flat_of before).bytes) place ∙ (gave.told was).end none)
 
 -- bytes came
-pub brought_so : (before after : Buffer) (held mid new : HeldView) (size at taken room : ℕ) (settings : TextSettings) (part piece : List ℕ) → before.life ≡ life.Live → before.can.readable ≡ true → Gave before size part after → mid ≡ record held { room = mid.room } → piece ≡ part → new ≡ record mid { bytes = mid.bytes ++ piece; room = room } → IsText before held at taken settings → IsText after new at taken settings
-brought_so before after held mid new size at taken room settings part piece live reads gave mid_is same put is =
-    subst (λ (own : HeldView). IsText after own at taken settings) (sym (put ∙ (ap (λ (bytes : List ℕ). record mid { bytes = mid.bytes ++ bytes; room = room }) same ∙ ap (λ (own : HeldView). record own { bytes = own.bytes ++ part; room = room }) mid_is)))
-    (text_brought before after held part room at taken settings live reads gave.reads gave.place gave.told is)
+pub brought_so : (before after : Buffer) (held mid new : HeldView) (size : ℕ) (front : Option Front) (at taken room : ℕ) (dirty : Bool) (settings : TextSettings) (part piece : List ℕ) → before.life ≡ life.Live → before.can.readable ≡ true → Gave before size part after → mid ≡ record held { room = mid.room } → piece ≡ part → new ≡ record mid { bytes = mid.bytes ++ piece; room = room } → IsText before held front at taken dirty settings → IsText after new front at taken dirty settings
+brought_so before after held mid new size front at taken room dirty settings part piece live reads gave mid_is same put is =
+    subst (λ (own : HeldView). IsText after own front at taken dirty settings) (sym (put ∙ (ap (λ (bytes : List ℕ). record mid { bytes = mid.bytes ++ bytes; room = room }) same ∙ ap (λ (own : HeldView). record own { bytes = own.bytes ++ part; room = room }) mid_is)))
+    (text_brought before after held part room front at taken dirty settings live reads gave.reads gave.place gave.told is)
 
 -- a reading that failed
-pub failed_so : (before after : Buffer) (held new : HeldView) (size at taken : ℕ) (settings : TextSettings) (why : IoFault) → before.life ≡ life.Live → ReadOutcome before size (Err why) after → new ≡ record held { room = new.room } → IsText before held at taken settings → IsText after new at taken settings
-failed_so before after held new size at taken settings fault.RawFault live nothing room is = kept_so before after held new at taken settings false true live nothing room is
-failed_so before after held new size at taken settings fault.NoMemory live nothing room is = kept_so before after held new at taken settings false false live nothing room is
-failed_so before after held new size at taken settings other live nothing room is = absurd nothing
+pub failed_so : (before after : Buffer) (held new : HeldView) (size : ℕ) (front : Option Front) (at taken : ℕ) (dirty : Bool) (settings : TextSettings) (why : IoFault) → before.life ≡ life.Live → ReadOutcome before size (Err why) after → new ≡ record held { room = new.room } → IsText before held front at taken dirty settings → IsText after new front at taken dirty settings
+failed_so before after held new size front at taken dirty settings fault.RawFault live nothing room is = kept_so before after held new front at taken dirty settings false true live nothing room is
+failed_so before after held new size front at taken dirty settings fault.NoMemory live nothing room is = kept_so before after held new front at taken dirty settings false false live nothing room is
+failed_so before after held new size front at taken dirty settings other live nothing room is = absurd nothing
 
 brings_nothing : (old new : TextView) (waited faulted : Bool) → HoldsAsBefore old new → GaveNothing old.buffer waited faulted new.buffer → BringsNothing old waited faulted new
 brings_nothing old new waited faulted held nothing = record { held = held; reads = nothing.reads; place = nothing.place }

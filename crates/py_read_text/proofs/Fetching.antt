@@ -7,20 +7,20 @@ use Rattle.py_flat.specs.declared.fault.IoFault.TheVariants as fault
 use Rattle.py_flat.specs.declared.life.Life.{Life}
 use Rattle.py_flat.specs.declared.life.Life.TheVariants as life
 use Rattle.py_flat.specs.Bytes.{left_at, lay}
-use Rattle.py_flat.specs.Calls.{FileReply, Bytes, NotReady, Refused, Read1}
+use Rattle.py_flat.specs.Calls.{FileCall, FileReply, Bytes, NotReady, Refused, Read1}
 use Rattle.py_flat.specs.FlatFile.{FlatFile, Buffering, Unbuffered, Buffered, InMemory}
 use Rattle.py_flat.specs.Owed.{Owed}
-use Rattle.py_flat.specs.Refusals.{refusal, is_unbuffered}
+use Rattle.py_flat.specs.Refusals.{refusal, is_close, is_unbuffered}
 use Rattle.py_flat.specs.AllowedStep.{settled, waited_for, raw_faulted, out_of_memory}
 use Rattle.py_flat.specs.BinaryStep.{Transfers, BinaryStep, CarriedOut, SettledBy, if_over_raw, IsFrontOf}
 use Rattle.py_flat.specs.ExactStep.{gives, one_transfer}
 use Rattle.py_stream.specs.Replies.{bytes_reply}
 use Rattle.py_flat.specs.Causes.{counted}
-use Rattle.py_stream.specs.Kinds.{says_fault, says_given, asks_nothing}
-use Rattle.py_stream.specs.Writing.{OwesUpTo}
+use Rattle.py_stream.specs.Kinds.{says_fault, says_given, asks_nothing, outlasts}
+use Rattle.py_stream.specs.Writing.{OwesUpTo, PassesFront}
 use Rattle.py_stream.specs.Answers.{PlaceStarves}
-use Rattle.py_stream.specs.Buffer.{Buffer, WhereShown, flat_of, size_shown, refused_here, BufferIsCounted, GivesAsked, AnswersAsBuffer}
-use Rattle.py_read_text.specs.Reading.{Reads, ReadOutcome}
+use Rattle.py_stream.specs.Buffer.{Buffer, WhereShown, flat_of, size_shown, stream_shown, refused_here, BufferIsCounted, BufferLays, GivesAsked, AnswersAsBuffer}
+use Rattle.py_read_text.specs.Reading.{Calls, ReadOutcome}
 use Rattle.py_read_text.proofs.Owing.{front_passes, passes_then}
 use Rattle.py_raw.proofs.Telling.{tells_still}
 use Rattle.py_read_text.specs.Owing.{LaysFront}
@@ -129,47 +129,44 @@ asks_one : (size : ℕ) → 0 < size → asks_nothing (Read1 (Some size)) ≡ fa
 asks_one zero some = absurd (omega arith)
 asks_one (suc size) some = refl
 
--- what every reading tells of the buffer
-record Goes (before : Buffer) (size : ℕ) (reply : FileReply) (waited faulted : Bool) (after : Buffer) : Type 0 where
-  some : 0 < size
-  first : (after.place ≡ before.place) ⊎ IsTrue (says_given reply)
-  short : after.short ≡ waited
-  fails : says_fault reply ≡ faulted
-  life_is : after.life ≡ (if faulted then life.Failed else before.life)
-  forth : before.place ≤ after.place
-  bytes : WhereShown before ((flat_of after).bytes ≡ (flat_of before).bytes)
+-- what a call tells of the buffer that gives it no byte
+pub record Goes (before : Buffer) (reply : FileReply) (waited faulted : Bool) (after : Buffer) : Type 0 where
+  pub first : (after.place ≡ before.place) ⊎ (after.owed.bytes ≡ [])
+  pub short : after.short ≡ waited
+  pub fails : says_fault reply ≡ faulted
+  pub life_is : after.life ≡ (if faulted then life.Failed else before.life)
+  pub bytes : WhereShown before ((flat_of after).bytes ≡ (flat_of before).bytes)
 
-reads_so : (before after : Buffer) (size : ℕ) (reply : FileReply) (waited faulted : Bool) → AnswersAsBuffer before (Read1 (Some size)) reply after → Goes before size reply waited faulted after → Reads before waited faulted after
-reads_so before after size reply waited faulted answers goes = record {
+pub calls_so : (before after : Buffer) (call : FileCall) (reply : FileReply) (waited faulted : Bool) → AnswersAsBuffer before call reply after → is_close call ≡ false → outlasts (size_shown before.buffering) call ≡ false → PassesFront (stream_shown before) (stream_shown after) → WhereShown before (BufferLays before [] after.raw.bytes) → Goes before reply waited faulted after → Calls before waited faulted after
+calls_so before after call reply waited faulted answers opens ends owes lays goes = record {
   keeps = answers.keeps;
   wait = λ waits. answers.causes.waits (goes.short ∙ waits);
   fault = λ faults. answers.causes.faults (goes.fails ∙ faults);
-  waits = λ exact. waits_by waited before after goes.short (answers.counted exact);
+  waits = λ exact. waits_by waited goes.short (answers.counted exact);
   faults = λ exact sound. (answers.counted exact).faults (goes.fails ∙ sound);
   life_is = goes.life_is;
-  forth = goes.forth;
   far = answers.moves.far;
   bytes = goes.bytes;
   spares = λ can none. let spared = answers.spares can none in record { bytes = spared.bytes; written = spared.written; owed = spared.owed };
-  stays = answers.stays refl;
-  passes = front_passes before after answers.owes;
-  lays = λ ends. lays_alone before after ends answers.lays;
+  stays = answers.stays opens;
+  passes = front_passes before after owes;
+  lays = λ up_to. lays_alone before after up_to lays;
   stands = λ stood. answers.stands;
-  owes = rest_up_to before.owed after.owed before.place after.place answers.owes.passed answers.owes.most answers.owes.bytes answers.owes.place first;
-  none = λ none. answers.owes.bytes ∙ drop_none answers.owes.passed before.owed.bytes none;
-  first = first;
+  owes = rest_up_to before.owed after.owed before.place after.place owes.passed owes.most owes.bytes owes.place goes.first;
+  none = λ none. owes.bytes ∙ drop_none owes.passed before.owed.bytes none;
+  first = goes.first;
 }
   where
-    passed_first : (after.place ≡ before.place) ⊎ IsTrue (says_given reply) → (after.place ≡ before.place) ⊎ (after.owed.bytes ≡ [])
-    passed_first (inl same) = inl same
-    passed_first (inr gives) = inr (answers.passes_first (shown_size before.buffering) refl (asks_one size goes.some) gives tt)
+    waits_by : (waited : Bool) → after.short ≡ waited → BufferIsCounted before call reply after → after.raw.waits ≡ (if waited then counted before.raw.waits 1 else before.raw.waits)
+    waits_by true short counts = counts.once short ends
+    waits_by false short counts = counts.waits short ends
 
-    first : (after.place ≡ before.place) ⊎ (after.owed.bytes ≡ [])
-    first = passed_first goes.first
+-- where some bytes, or the end, are given, all was passed on first that was owed
+passed_first : (before after : Buffer) (size : ℕ) (reply : FileReply) → 0 < size → AnswersAsBuffer before (Read1 (Some size)) reply after → IsTrue (says_given reply) → after.owed.bytes ≡ []
+passed_first before after size reply some answers gives = answers.passes_first (shown_size before.buffering) refl (asks_one size some) gives tt
 
-    waits_by : (waited : Bool) (before after : Buffer) → after.short ≡ waited → BufferIsCounted before (Read1 (Some size)) reply after → after.raw.waits ≡ (if waited then counted before.raw.waits 1 else before.raw.waits)
-    waits_by true before after short counts = counts.once short refl
-    waits_by false before after short counts = counts.waits short refl
+reads_so : (before after : Buffer) (size : ℕ) (reply : FileReply) (waited faulted : Bool) → AnswersAsBuffer before (Read1 (Some size)) reply after → Goes before reply waited faulted after → Calls before waited faulted after
+reads_so before after size reply waited faulted answers goes = calls_so before after (Read1 (Some size)) reply waited faulted answers refl refl answers.owes answers.lays goes
 
 never_bytes : (why : IoFault) (part : List ℕ) → Refused why ≢ Bytes part
 never_bytes why part = λ same. absurd (cc)
@@ -193,7 +190,7 @@ reads_live before after size (Ok (Some part)) is some answers =
     let accepted = accepts_read before (Some size) is.live is.reads is.buffered is.kept in
     let gave : WhereShown before (GaveFlat (flat_of before) part.items (flat_of after)) = λ told. gave_told (flat_of before) size part.items after.short false (flat_of after) some accepted.1 (answers.told (rw is.kept refl) told) in
     record {
-      reads = reads_so before after size (Bytes part.items) false false answers (record { some = some; first = inr refl; short = answers.shorts; fails = refl; life_is = answers.moves.life_is; forth = omega (arith, answers.moves.place); bytes = λ told. (gave told).bytes });
+      reads = reads_so before after size (Bytes part.items) false false answers (record { first = inr (passed_first before after size (Bytes part.items) some answers refl); short = answers.shorts; fails = refl; life_is = answers.moves.life_is; bytes = λ told. (gave told).bytes });
       fits = fits_size before.buffering size part.items answers.moves.within;
       place = answers.moves.place;
       told = λ told. record { front = (gave told).front; end = (gave told).end };
@@ -202,28 +199,28 @@ reads_live before after size (Ok None) is some answers =
     let short : IsTrue after.short = answers.shorts in
     record {
       nothing = record {
-        reads = reads_so before after size NotReady true false answers (record { some = some; first = inl answers.moves.place; short = short; fails = refl; life_is = answers.moves.life_is; forth = omega (arith, answers.moves.place); bytes = λ told. nothing_told (flat_of before) size NotReady after.short false (flat_of after) unready_bytes (answers.told (rw is.kept refl) told) });
+        reads = reads_so before after size NotReady true false answers (record { first = inl answers.moves.place; short = short; fails = refl; life_is = answers.moves.life_is; bytes = λ told. nothing_told (flat_of before) size NotReady after.short false (flat_of after) unready_bytes (answers.told (rw is.kept refl) told) });
         place = answers.moves.place;
       };
       empty = answers.hides short refl;
     }
 reads_live before after size (Err fault.RawFault) is some answers = record {
-  reads = reads_so before after size (Refused fault.RawFault) false true answers (record { some = some; first = inl answers.moves.place; short = answers.shorts; fails = refl; life_is = answers.moves.life_is; forth = omega (arith, answers.moves.place); bytes = λ told. nothing_told (flat_of before) size (Refused fault.RawFault) after.short true (flat_of after) (never_bytes fault.RawFault) (answers.told (rw is.kept refl) told) });
+  reads = reads_so before after size (Refused fault.RawFault) false true answers (record { first = inl answers.moves.place; short = answers.shorts; fails = refl; life_is = answers.moves.life_is; bytes = λ told. nothing_told (flat_of before) size (Refused fault.RawFault) after.short true (flat_of after) (never_bytes fault.RawFault) (answers.told (rw is.kept refl) told) });
   place = answers.moves.place;
 }
 reads_live before after size (Err fault.NoMemory) is some answers =
     let place : after.place ≡ before.place = subst (λ (current : Life). PlaceStarves current None before.place after.place) (answers.moves.life_is ∙ is.live) answers.moves.place in
     record {
-      reads = reads_so before after size (Refused fault.NoMemory) false false answers (record { some = some; first = inl place; short = answers.shorts; fails = refl; life_is = answers.moves.life_is; forth = omega (arith, place); bytes = λ told. nothing_told (flat_of before) size (Refused fault.NoMemory) after.short false (flat_of after) (never_bytes fault.NoMemory) (answers.told (rw is.kept refl) told) });
+      reads = reads_so before after size (Refused fault.NoMemory) false false answers (record { first = inl place; short = answers.shorts; fails = refl; life_is = answers.moves.life_is; bytes = λ told. nothing_told (flat_of before) size (Refused fault.NoMemory) after.short false (flat_of after) (never_bytes fault.NoMemory) (answers.told (rw is.kept refl) told) });
       place = place;
     }
 reads_live before after size (Err (fault.WouldBlock taken)) is some answers = absurd (writes_no_wait before.can.writable (answers.answer (accepts_read before (Some size) is.live is.reads is.buffered is.kept).0))
 reads_live before after size (Err other) is some answers = absurd (answers.answer (accepts_read before (Some size) is.live is.reads is.buffered is.kept).0)
 
--- One reading behind another.
+-- One call behind another.
 
-reads_lay : (before mid after : Buffer) (waited faulted : Bool) → Reads before false false mid → Reads mid waited faulted after → OwesUpTo before.owed before.place → WhereShown before (LaysFront before.raw.bytes (before.place - length before.owed.bytes) before.owed.bytes after.raw.bytes)
-reads_lay before mid after waited faulted first second ends told = by_first first.first
+calls_lay : (before mid after : Buffer) (waited faulted : Bool) → Calls before false false mid → Calls mid waited faulted after → OwesUpTo before.owed before.place → WhereShown before (LaysFront before.raw.bytes (before.place - length before.owed.bytes) before.owed.bytes after.raw.bytes)
+calls_lay before mid after waited faulted first second ends told = by_first first.first
   where
     from : ℕ
     from = before.place - length before.owed.bytes
@@ -245,21 +242,20 @@ reads_lay before mid after waited faulted first second ends told = by_first firs
         (lays_behind before.raw.bytes from behind before.owed.bytes mid.owed.bytes [] mid.raw.bytes after.raw.bytes first.passes.passed first.passes.most first.passes.rest at (first.lays ends told) flat
         (subst (λ (owed : List ℕ). LaysFront mid.raw.bytes behind owed after.raw.bytes) (sym (append-nil mid.owed.bytes)) laid))
 
-pub reads_on : (before mid after : Buffer) (waited faulted : Bool) → Reads before false false mid → Reads mid waited faulted after → Reads before waited faulted after
-reads_on before mid after waited faulted first second = record {
+pub calls_on : (before mid after : Buffer) (waited faulted : Bool) → Calls before false false mid → Calls mid waited faulted after → Calls before waited faulted after
+calls_on before mid after waited faulted first second = record {
   keeps = grind arith;
   wait = grind arith;
   fault = grind arith;
   waits = grind arith;
   faults = grind arith;
   life_is = second.life_is ∙ ap (λ (current : Life). if faulted then life.Failed else current) first.life_is;
-  forth = omega (arith, first.forth, second.forth);
   far = second.far;
   bytes = grind arith;
   spares = grind arith;
   stays = grind arith;
   passes = passes_then before.raw mid.raw after.raw before.owed.bytes mid.owed.bytes after.owed.bytes first.keeps.raw first.passes second.passes;
-  lays = reads_lay before mid after waited faulted first second;
+  lays = calls_lay before mid after waited faulted first second;
   stands = λ stood. second.stands (first.stands stood);
   owes = λ ends. second.owes (first.owes ends);
   none = λ none. second.none (first.none none);

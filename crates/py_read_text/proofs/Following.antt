@@ -1,5 +1,5 @@
 -- What looking at what is in hand leaves.
-use Rattle.std.proofs.Common.{◌≡◌, ℕ, ◌+◌, ◌≤◌, Bool, true, false, ◌&&◌, ◌||◌, nat_eq, if◌then◌else◌, List, [], ◌∷◌, ◌++◌, length, Option, None, refl, sym, ap, subst, ◌∙◌, arith}
+use Rattle.std.proofs.Common.{◌≡◌, ℕ, ◌+◌, ◌≤◌, Bool, true, false, ◌&&◌, ◌||◌, nat_eq, if◌then◌else◌, List, [], ◌∷◌, ◌++◌, length, Option, Some, None, IfSome, refl, sym, ap, subst, ◌∙◌, arith}
 use Rattle.std.proofs.lemmas.List.{append-nil, length-append, length-drop}
 use Rattle.py_flat.specs.Lines.{lf, cr}
 use Rattle.py_plain.specs.declared.newlines.Newlines.{Newlines}
@@ -7,11 +7,13 @@ use Rattle.py_plain.specs.declared.newlines.Newlines.TheVariants as newlines
 use Rattle.py_plain.specs.Items.{Item, characters_of, refusal_of}
 use Rattle.py_plain.specs.NewlineRule.{released, passes, universal, read_so_far, read_all}
 use Rattle.py_plain_text.specs.Rest.{Rest}
-use Rattle.py_held_text.specs.Held.{HeldView, ahead, left_with, left_so_far}
+use Rattle.py_held_text.specs.Held.{HeldView, ahead, comes_next, left_with, left_so_far}
+use Rattle.py_held_text.specs.declared.base.Mark.{Mark}
 use Rattle.py_held_text.specs.declared.held_stop.HeldStop.{HeldStop}
 use Rattle.py_held_text.specs.declared.held_stop.HeldStop.TheVariants as stops
 use Rattle.py_held_text.specs.Decodes.{Decodes, IsDrained, StoppedAt}
 use Rattle.py_held_text.proofs.Bases.{same-decoded, bases-decoded, bases-follow}
+use Rattle.py_read_text.specs.Knowing.{HasFront}
 use Rattle.py_read_text.specs.Reading.{Coming, Follows}
 
 -- The rule, of no characters.
@@ -64,6 +66,8 @@ follows_itself Behind held = record {
   order = refl;
   base = refl;
   whole = refl;
+  front = refl;
+  has = λ has. has;
   given = refl;
   bases = λ more may gone is. is;
   ended = λ more may was. was;
@@ -82,8 +86,10 @@ follows_room Behind held room = record {
   order = refl;
   base = refl;
   whole = refl;
+  front = refl;
+  has = λ has. record { among = has.among; marked = has.marked };
   given = refl;
-  bases = λ more may gone is. bases-follow more held (record held { room = room }) gone (record { settings = record { encoding = refl; handler = refl; newline = refl }; order = refl; base = refl; whole = refl }) refl refl refl refl (omega arith) refl ([], refl) is;
+  bases = λ more may gone is. bases-follow more held (record held { room = room }) gone (record { settings = record { encoding = refl; handler = refl; newline = refl }; order = refl; base = refl; whole = refl }) refl refl refl refl refl (omega arith) refl ([], refl) is;
   ended = λ more may was. was;
   few = omega arith;
   left = λ more may. refl;
@@ -99,6 +105,8 @@ follows_on Behind old mid new first second = record {
   order = second.order ∙ first.order;
   base = second.base ∙ first.base;
   whole = second.whole ∙ first.whole;
+  front = second.front ∙ first.front;
+  has = λ has. second.has (first.has has);
   given = second.given ∙ first.given;
   bases = λ more may gone is. second.bases more may gone (first.bases more may gone is);
   ended = λ more may was. second.ended more may (first.ended more may was);
@@ -117,6 +125,8 @@ follows_of Behind Wider old new wider follows = record {
   order = follows.order;
   base = follows.base;
   whole = follows.whole;
+  front = follows.front;
+  has = follows.has;
   given = follows.given;
   bases = λ more may. follows.bases more (wider more may);
   ended = λ more may. follows.ended more (wider more may);
@@ -129,6 +139,19 @@ follows_of Behind Wider old new wider follows = record {
 decoded_stands : (last : Bool) (old new : HeldView) → Decodes last old new → new.place + length new.bytes ≡ old.place + length old.bytes
 decoded_stands last old new decodes = omega (arith, decodes.place, ap length decodes.bytes, length-drop decodes.used old.bytes, decodes.within)
 
+-- the front stands before a mark that is set behind all that is known
+set_front : (stays : Bool) (front count passed : ℕ) (mark : Option Mark) → front ≤ count → IfSome mark (λ (own : Mark). front ≤ own.count) → IfSome (if stays then mark else Some (record { count = count; passed = passed })) (λ (own : Mark). front ≤ own.count)
+set_front true front count passed mark among marked = marked
+set_front false front count passed mark among marked = among
+
+decoded_front : (last : Bool) (old new : HeldView) → Decodes last old new → HasFront old → HasFront new
+decoded_front last old new decodes has = record {
+  among = omega (arith, has.among, decodes.front, ap length decodes.grows.1, length-append old.known decodes.grows.0);
+  marked = subst (λ (front : ℕ). IfSome new.mark (λ (own : Mark). front ≤ own.count)) (sym decodes.front)
+      (subst (λ (mark : Option Mark). IfSome mark (λ (own : Mark). old.front ≤ own.count)) (sym decodes.mark)
+      (set_front ((old.cr || nat_eq (length old.back) 0) || comes_next old.mark) old.front (length old.known) (length old.back) old.mark has.among has.marked));
+}
+
 -- bytes behind which more may come were decoded
 pub decoded : (old new : HeldView) → Decodes false old new → Follows (Coming false) old new
 decoded old new decodes = record {
@@ -138,6 +161,8 @@ decoded old new decodes = record {
   order = decodes.order;
   base = (same-decoded false old new decodes).base;
   whole = decodes.whole;
+  front = decodes.front;
+  has = decoded_front false old new decodes;
   given = decodes.given;
   bases = λ more may gone is. bases-decoded more false old new gone (λ last. absurd (cc)) decodes is;
   ended = λ more may was knew. was (sym decodes.ended ∙ knew);
@@ -162,6 +187,8 @@ decoded_last old new drained decodes =
       order = decodes.order;
       base = (same-decoded true old new decodes).base;
       whole = decodes.whole;
+      front = decodes.front;
+      has = decoded_front true old new decodes;
       given = decodes.given;
       bases = λ more none gone is. bases-decoded more true old new gone none decodes is;
       ended = λ more none was knew. none refl;
@@ -206,8 +233,10 @@ let_go Behind held none = record {
   order = refl;
   base = refl;
   whole = refl;
+  front = refl;
+  has = λ has. record { among = omega (arith, has.among, length-append held.known (read_all held.newline held.cr [])); marked = has.marked };
   given = refl;
-  bases = λ more may gone is. bases-follow more held (after_release held) gone (record { settings = record { encoding = refl; handler = refl; newline = refl }; order = refl; base = refl; whole = refl }) refl refl refl refl (omega (arith, length-append held.known (read_all held.newline held.cr []))) (released_left held more (none more may)) ([], refl) is;
+  bases = λ more may gone is. bases-follow more held (after_release held) gone (record { settings = record { encoding = refl; handler = refl; newline = refl }; order = refl; base = refl; whole = refl }) refl refl refl refl refl (omega (arith, length-append held.known (read_all held.newline held.cr []))) (released_left held more (none more may)) ([], refl) is;
   ended = λ more may was. was;
   few = omega (arith, length-append held.known (read_all held.newline held.cr []), cr_few held.newline held.cr);
   left = λ more may. released_left held more (none more may);

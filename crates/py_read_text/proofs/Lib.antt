@@ -23,3 +23,8 @@ mod Laying
 pub mod Fronts
 pub mod Calling
 pub mod Living
+mod Going
+mod Landings
+mod Feeding
+mod Putting
+mod Inside

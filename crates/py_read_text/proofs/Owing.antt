@@ -11,6 +11,7 @@ use Rattle.py_stream.specs.Writing.{PassesFront, Takes}
 use Rattle.py_stream.specs.Buffer.{Buffer, stream_shown, IsClosedWithRaw}
 use Rattle.py_stream.proofs.Taking.{answers_then}
 use Rattle.py_read_text.specs.Knowing.{TextView, over_of, IsText}
+use Rattle.py_read_text.proofs.Holding.{begins_before}
 use Rattle.py_read_text.specs.Owing.{all_owed, IsJoined, PassesOwed, given_by, WriteMovesBy, OwesOn, HasOwn, StaysAttached, KeepsOpen, StaysWhileOwing}
 
 -- What is passed on.
@@ -76,8 +77,8 @@ has_own before call some = by_owed before.owed some (given_by before.settings ca
 
 -- Where what is owed stands.
 
-pub joined_of : (text : TextView) → IsText text.buffer text.held text.at text.taken text.settings → IsJoined (over_of text)
-joined_of text is = record { below = is.owes; stands = by_place is.ahead; behind = omega (arith, is.forth, is.stands); far = omega (arith, is.far); few = omega (arith, is.few, is.forth, is.stands) }
+pub joined_of : (text : TextView) → IsText text.buffer text.held text.front text.at text.taken text.dirty text.settings → IsJoined (over_of text)
+joined_of text is = record { below = is.owes; stands = by_place is.ahead; behind = omega (arith, is.forth, is.stands); far = omega (arith, is.far); few = omega (arith, is.few, is.forth, is.stands, begins_before text.front text.at text.taken text.held.front is.inside) }
   where
     by_place : (text.at ≡ text.buffer.place) ⊎ ((text.buffer.owed.bytes ≡ []) × (text.buffer.can.readable ≡ true)) → ((text.buffer.owed.bytes ≡ []) × (◌≡◌ {A = List ℕ} [] [])) ⊎ (text.at ≡ text.buffer.place + 0)
     by_place (inl there) = inr (omega (arith, there))

@@ -1,5 +1,5 @@
 -- A call of a text that reads, from its parts.
-use Rattle.std.proofs.Common.{◌≡◌, ℕ, max, inl, inr, ◌⊎◌, Bool, true, false, IsTrue, List, [], Some, None, Result, Ok, Err, if◌then◌else◌, refl, sym, ap, ◌∙◌, subst, arith}
+use Rattle.std.proofs.Common.{◌≡◌, ℕ, max, inl, inr, ◌⊎◌, Bool, true, false, IsTrue, List, [], Option, Some, None, Result, Ok, Err, if◌then◌else◌, refl, sym, ap, ◌∙◌, subst, arith}
 use Rattle.py_flat.specs.declared.fault.IoFault.{IoFault}
 use Rattle.py_flat.specs.declared.fault.IoFault.TheVariants as fault
 use Rattle.py_flat.specs.declared.life.Life.{Life}
@@ -9,10 +9,9 @@ use Rattle.py_flat.specs.Causes.{Rose, rose, counted}
 use Rattle.py_flat.specs.Calls.{FileReply, Refused}
 use Rattle.py_flat.specs.AllowedStep.{raw_faulted, out_of_memory}
 use Rattle.py_plain.specs.Units.{Unknown}
-use Rattle.py_plain_text.specs.TextFile.{TextFile, TextPlace, TextSettings}
+use Rattle.py_plain_text.specs.TextFile.{Front, TextFile, TextPlace, TextSettings}
 use Rattle.py_plain_text.specs.TextOver.{TextOver}
 use Rattle.py_plain_text.specs.TextCalls.{Read, ReadLine}
-use Rattle.py_plain_text.specs.TextRefusals.{refusal}
 use Rattle.py_plain_text.specs.TextAllowed.{reaches_raw, TextFileStep}
 use Rattle.py_raw.proofs.Telling.{tells_still}
 use Rattle.py_stream.specs.Kinds.{says_fault, says_no_memory}
@@ -26,31 +25,32 @@ use Rattle.py_read_text.specs.Waiting.{ShowsAll}
 use Rattle.py_read_text.specs.Ahead.{AsksAsNeeded}
 use Rattle.py_read_text.specs.TextState.{TextState}
 use Rattle.py_read_text.specs.Owing.{IsJoined, given_by, WriteMovesBy, Starves, Closes}
-use Rattle.py_read_text.specs.Answers.{calls_nothing, gives_text, IsReplyTo, IsComplete, IsShort, PlaceMoves, ReadsOneLine, WriteMoves, LifeMoves, settings_after, closes_again, WantsMemory, ClosesWithRaw, TextPasses, MovesByOwn, TextKeeps, TextHolds, TextBlames, TextTells, Answers}
+use Rattle.py_read_text.specs.Answers.{refused_here, calls_nothing, may_read, IsReplyTo, IsComplete, IsShort, PlaceMoves, ReadsOneLine, WriteMoves, LifeMoves, settings_after, closes_again, WantsMemory, ClosesWithRaw, TextPasses, MovesByOwn, TextKeeps, TextHolds, TextBlames, TextTells, TextSeeks, Answers}
 use Rattle.py_read_text.specs.Knowing.{TextView, place_of, over_of, state_of, shown_file}
-use Rattle.py_read_text.specs.Reading.{call_of, asks_none, Reads, KeepsPlace, HoldsNothing, gathers_wait, GatherOutcome, GathersAsNeeded, Finishes, OnlyWhereWaits, WaitsOrLacks, reply_of, waited_in}
-use Rattle.py_read_text.proofs.Steps.{accepts}
+use Rattle.py_read_text.specs.Reading.{call_of, asks_none, Calls, KeepsPlace, HoldsNothing, gathers_wait, GatherOutcome, GathersAsNeeded, Finishes, OnlyWhereWaits, WaitsOrLacks, reply_of, waited_in}
+use Rattle.py_read_text.proofs.Steps.{accepts_here}
 use Rattle.py_read_text.proofs.Owing.{passes_behind, owes_none, open_called}
 use Rattle.py_read_text.proofs.Fronts.{lays_owed}
 
 -- The same text.
 
-abbrev file_at : List ℕ → (at taken : ℕ) → Bool → Abilities → TextSettings → Life → TextFile
-file_at bytes at taken dirty can settings current = record { bytes = bytes; place = record { front = None; at = at; order = Unknown; taken = taken; dirty = dirty }; can = can; settings = settings; life = current }
+abbrev file_at : List ℕ → Option Front → (at taken : ℕ) → Bool → Abilities → TextSettings → Life → TextFile
+file_at bytes front at taken dirty can settings current = record { bytes = bytes; place = record { front = front; at = at; order = Unknown; taken = taken; dirty = dirty }; can = can; settings = settings; life = current }
 
 pub same_file : (old new : TextView) → (flat_of new.buffer).bytes ≡ (flat_of old.buffer).bytes → new.buffer.can ≡ old.buffer.can → new.buffer.life ≡ old.buffer.life → KeepsPlace old new → shown_file new ≡ shown_file old
 same_file old new bytes can current place =
     let was : List ℕ = (flat_of old.buffer).bytes in
-    ap (λ (own : List ℕ). file_at own new.at new.taken new.dirty new.buffer.can new.settings new.buffer.life) bytes
-    ∙ (ap (λ (own : ℕ). file_at was own new.taken new.dirty new.buffer.can new.settings new.buffer.life) place.at
-    ∙ (ap (λ (own : ℕ). file_at was old.at own new.dirty new.buffer.can new.settings new.buffer.life) place.taken
-    ∙ (ap (λ (own : Bool). file_at was old.at old.taken own new.buffer.can new.settings new.buffer.life) place.dirty
-    ∙ (ap (λ (own : Abilities). file_at was old.at old.taken old.dirty own new.settings new.buffer.life) can
-    ∙ (ap (λ (own : TextSettings). file_at was old.at old.taken old.dirty old.buffer.can own new.buffer.life) place.settings
-    ∙ ap (λ (own : Life). file_at was old.at old.taken old.dirty old.buffer.can old.settings own) current)))))
+    ap (λ (own : List ℕ). file_at own new.front new.at new.taken new.dirty new.buffer.can new.settings new.buffer.life) bytes
+    ∙ (ap (λ (own : Option Front). file_at was own new.at new.taken new.dirty new.buffer.can new.settings new.buffer.life) place.front
+    ∙ (ap (λ (own : ℕ). file_at was old.front own new.taken new.dirty new.buffer.can new.settings new.buffer.life) place.at
+    ∙ (ap (λ (own : ℕ). file_at was old.front old.at own new.dirty new.buffer.can new.settings new.buffer.life) place.taken
+    ∙ (ap (λ (own : Bool). file_at was old.front old.at old.taken own new.buffer.can new.settings new.buffer.life) place.dirty
+    ∙ (ap (λ (own : Abilities). file_at was old.front old.at old.taken old.dirty own new.settings new.buffer.life) can
+    ∙ (ap (λ (own : TextSettings). file_at was old.front old.at old.taken old.dirty old.buffer.can own new.buffer.life) place.settings
+    ∙ ap (λ (own : Life). file_at was old.front old.at old.taken old.dirty old.buffer.can old.settings own) current))))))
 
 pub same_place : (old new : TextView) → KeepsPlace old new → place_of new ≡ place_of old
-same_place old new place = rw (place.at, place.taken, place.dirty) refl
+same_place old new place = rw (place.front, place.at, place.taken, place.dirty) refl
 
 -- What every reading of a live text has.
 
@@ -73,9 +73,9 @@ writes_no_place : (asked : Wanted) (from to : ℕ) → WriteMovesBy (call_of ask
 writes_no_place (Characters size) from to = tt
 writes_no_place (Line limit) from to = tt
 
-gives_some : (asked : Wanted) → gives_text (call_of asked) ≡ true
-gives_some (Characters size) = refl
-gives_some (Line limit) = refl
+reads_some : (asked : Wanted) → may_read (call_of asked) ≡ true
+reads_some (Characters size) = refl
+reads_some (Line limit) = refl
 
 settings_so : (asked : Wanted) (reply : FileReply) (settings : TextSettings) → settings_after (call_of asked) reply settings ≡ settings
 settings_so (Characters size) reply settings = refl
@@ -109,6 +109,10 @@ tells_none : (asked : Wanted) (reply : FileReply) (text : TextOver Buffer) → T
 tells_none (Characters size) reply text = tt
 tells_none (Line limit) reply text = tt
 
+seeks_none : (asked : Wanted) (reply : FileReply) (text : TextOver Buffer) (place : TextPlace) → TextSeeks (call_of asked) reply text place
+seeks_none (Characters size) reply text place = tt
+seeks_none (Line limit) reply text place = tt
+
 completes : (asked : Wanted) (reply : FileReply) (short : Bool) (old new : Buffer) (writes : Bool) → IsReplyTo writes (call_of asked) reply → IsShort reply short → (IsTrue short → Rose old.raw.waits new.raw.waits) → (IsTrue (says_fault reply) → Rose old.raw.faults new.raw.faults) → rose old.raw.waits new.raw.waits ≡ false → rose old.raw.faults new.raw.faults ≡ false → IsComplete (call_of asked) reply short
 completes (Characters size) reply short old new writes is shorts waits faults calm sound = grind arith
 completes (Line limit) reply short old new writes is shorts waits faults calm sound = grind arith
@@ -116,7 +120,7 @@ completes (Line limit) reply short old new writes is shorts waits faults calm so
 -- the parts of a call: what was read, by whether it waited; and what was answered, short or not
 pub record Parts (old : TextView) (asked : Wanted) (waited short : Bool) (reply : FileReply) (new : TextView) : Type 0 where
   pub was : IsJoined (over_of old)
-  pub reads : Reads old.buffer waited (says_fault reply) new.buffer
+  pub reads : Calls old.buffer waited (says_fault reply) new.buffer
   pub waits : IsTrue short → waited ≡ true
   pub quiet : short ≡ false → says_no_memory reply ≡ false → waited ≡ false
   pub nothing : asks_none asked ≡ true → new.buffer ≡ old.buffer
@@ -146,7 +150,7 @@ counts_most false old new is = inl is
 
 pub answers : (old new : TextView) (asked : Wanted) (waited short : Bool) (reply : FileReply) → old.buffer.life ≡ life.Live → old.buffer.can.readable ≡ true → Parts old asked waited short reply new → Answers (state_of old false) (call_of asked) reply (state_of new short)
 answers old new asked waited short reply live can parts =
-    let accepted : refusal (shown_file old) (call_of asked) ≡ None = accepts (shown_file old) asked live can in
+    let accepted : refused_here (shown_file old) (call_of asked) ≡ None = accepts_here (shown_file old) asked live can in
     let causes_wait : IsTrue short → Rose old.buffer.raw.waits new.buffer.raw.waits = λ is. parts.reads.wait (parts.waits is) in
     record {
       keeps = parts.reads.keeps;
@@ -177,6 +181,7 @@ answers old new asked waited short reply live can parts =
       lines = parts.lines;
       blames = parts.blames;
       tells = tells_none asked reply (over_of old);
+      seeks = seeks_none asked reply (over_of old) (place_of new);
       joined = parts.joined;
       owes = owes_none (over_of old) (call_of asked) (over_of new) (writes_no_place asked old.at new.at) (passes_behind old.buffer.raw new.buffer.raw old.buffer.owed.bytes new.buffer.owed.bytes [] parts.reads.passes);
       lays = λ told. lays_owed (over_of old) (given_by old.settings (call_of asked)) new.buffer.raw.bytes parts.was (parts.reads.lays parts.was.below told);
@@ -191,7 +196,7 @@ answers old new asked waited short reply live can parts =
       told = parts.told;
       needs = λ gives. parts.needs;
       hides = λ is gives own. let hidden = parts.hides is in record { empty = hidden.0; shows = hidden.1 };
-      stops = λ is. record { full = λ some. absurd (some refl); some = λ none own. let never = sym (gives_some asked) ∙ none in absurd (cc) };
+      stops = λ is. record { full = λ some. absurd (some refl); some = λ none own. let never = sym (reads_some asked) ∙ none in absurd (cc) };
       passes = passes_none (state_of old false) asked reply (state_of new short);
       by_own = moves_any asked (over_of old) (over_of new);
       kept = keeps_any asked reply (state_of new short);
@@ -296,12 +301,12 @@ quiet_so gathered.Ends result lacks whole has = refl
 
 pub finished : (old mid new : TextView) (asked : Wanted) (stop : Gathered) (result : Result Answer IoFault) → old.buffer.life ≡ life.Live → old.buffer.can.readable ≡ true → IsJoined (over_of old) → IsJoined (over_of new) → KeepsPlace old mid → (asks_none asked ≡ true → mid.buffer ≡ old.buffer) → GathersAsNeeded old asked mid → GatherOutcome old asked (Ok stop) mid → OnlyWhereWaits stop (waited_in result) → WaitsOrLacks stop result → Finishes mid asked result new → Answers (state_of old false) (call_of asked) (reply_of result) (state_of new (waited_in result))
 finished old mid new asked stop result live can was joined place nothing needs outcome only lacks done =
-    let reads : Reads old.buffer (gathers_wait (Ok stop)) false new.buffer = subst (Reads old.buffer (gathers_wait (Ok stop)) false) (sym done.buffer) outcome.0 in
+    let reads : Calls old.buffer (gathers_wait (Ok stop)) false new.buffer = subst (Calls old.buffer (gathers_wait (Ok stop)) false) (sym done.buffer) outcome.0 in
     let same : WhereShown old.buffer (shown_file mid ≡ shown_file old) = λ told. same_file old mid (outcome.0.bytes told) outcome.0.keeps.can outcome.0.life_is place in
     let tells_mid = tells_still old.buffer.raw mid.buffer.raw outcome.0.keeps.raw in
     answers old new asked (gathers_wait (Ok stop)) (waited_in result) (reply_of result) live can (record {
       was = was;
-      reads = subst (λ (faulted : Bool). Reads old.buffer (gathers_wait (Ok stop)) faulted new.buffer) (sym done.sound) reads;
+      reads = subst (λ (faulted : Bool). Calls old.buffer (gathers_wait (Ok stop)) faulted new.buffer) (sym done.sound) reads;
       waits = λ is. waits_only stop (waited_in result) only is;
       quiet = λ whole has. quiet_so stop result lacks whole has;
       nothing = λ none. done.buffer ∙ nothing none;

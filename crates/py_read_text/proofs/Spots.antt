@@ -8,7 +8,7 @@ use Rattle.py_plain.specs.Units.{Unknown}
 use Rattle.py_plain_text.specs.TextFile.{TextSettings}
 use Rattle.py_held_text.specs.Held.{HeldView, ahead, base_of, whole_of, given_on}
 use Rattle.py_held_text.specs.Bases.{rebased, KnowsBases}
-use Rattle.py_held_text.proofs.Bases.{SameBase, GivenOn, ahead-same, bases-nothing, bases-put, ahead-put, bases-given}
+use Rattle.py_held_text.proofs.Bases.{SameBase, GivenOn, ahead-same, front-from, bases-front, bases-put, ahead-put, bases-given}
 use Rattle.py_held_text.proofs.Walking.{both-before}
 use Rattle.py_read_text.specs.Knowing.{from_place, KnowsSpot}
 use Rattle.py_read_text.specs.Reading.{Follows}
@@ -17,10 +17,10 @@ use Rattle.py_read_text.specs.Reading.{Follows}
 abbrev pub held_from : TextSettings → ℕ → List ℕ → ℕ → HeldView
 held_from settings at since room = record (from_place settings at) { bytes = since; room = room }
 
--- nothing is known from the text place on
-pub spot_clean : (settings : TextSettings) (bytes : List ℕ) (far at room : ℕ) (since : List ℕ) → left_at bytes at ≡ since ++ left_at bytes far → KnowsSpot settings bytes far at (held_from settings at since room)
-spot_clean settings bytes far at room since split =
-    let bases = bases-nothing (left_at bytes far) (held_from settings at since room) in
+-- nothing is known from the text place on but characters that stand before it
+pub spot_front : (settings : TextSettings) (bytes : List ℕ) (far at room : ℕ) (since front : List ℕ) → left_at bytes at ≡ since ++ left_at bytes far → KnowsSpot settings bytes far at (front-from (held_from settings at since room) front)
+spot_front settings bytes far at room since front split =
+    let bases = bases-front (left_at bytes far) (held_from settings at since room) front in
     let here : at - 0 ≡ at = omega arith in
     record {
       order = refl;
@@ -33,7 +33,7 @@ spot_clean settings bytes far at room since split =
       ended = λ knew. absurd (cc);
     }
   where
-    anew : (place : ℕ) → rebased (held_from settings place since room) ≡ held_from settings place since room
+    anew : (place : ℕ) → rebased (front-from (held_from settings place since room) front) ≡ held_from settings place since room
     anew place =
         let there : (place - 0) + 0 ≡ place = omega arith in
         ap (λ (own : ℕ). held_from settings own since room) there

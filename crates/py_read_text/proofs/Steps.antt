@@ -21,6 +21,7 @@ use Rattle.py_held_text.specs.declared.wanted.Wanted.{Wanted}
 use Rattle.py_held_text.specs.declared.wanted.Wanted.TheVariants.{Characters, Line}
 use Rattle.py_held_text.specs.Held.{ahead, left_with}
 use Rattle.py_held_text.specs.Finding.{answer_of, enough, enough_before}
+use Rattle.py_read_text.specs.Answers.{refused_here}
 use Rattle.py_read_text.specs.Knowing.{TextView, shown_file, from_place, KnowsTold}
 use Rattle.py_read_text.specs.Reading.{call_of, size_of, asks_all, passes, rest_of, ComesLast}
 use Rattle.py_read_text.proofs.Enough.{is_enough, is_short, is_before, passes_range}
@@ -30,7 +31,7 @@ pub record Tied (text : TextView) : Type 0 where
   pub live : text.buffer.life ≡ life.Live
   pub reads : text.buffer.can.readable ≡ true
   pub rule : text.held.newline ≡ text.settings.newline
-  pub knows : KnowsTold text.settings (flat_of text.buffer).bytes text.buffer.place text.at text.taken text.held
+  pub knows : KnowsTold text.settings (flat_of text.buffer).bytes text.buffer.place text.front text.at text.taken text.held
 
 pub behind_given : (given cs : List ℕ) (taken : ℕ) → length given ≡ taken → drop taken (given ++ cs) ≡ cs
 behind_given given cs taken count = ap (λ (n : ℕ). drop n (given ++ cs)) (sym count) ∙ drop-append_seam given cs
@@ -58,6 +59,13 @@ answered file asked rest = answered_text file (range_refusal (passes asked file.
 pub accepts : (file : TextFile) (asked : Wanted) → file.life ≡ life.Live → file.can.readable ≡ true → refusal file (call_of asked) ≡ None
 accepts file (Characters size) live reads = rw live (rw reads refl)
 accepts file (Line limit) live reads = rw live (rw reads refl)
+
+pub refused_so : (file : TextFile) (asked : Wanted) → refused_here file (call_of asked) ≡ refusal file (call_of asked)
+refused_so file (Characters size) = refl
+refused_so file (Line limit) = refl
+
+pub accepts_here : (file : TextFile) (asked : Wanted) → file.life ≡ life.Live → file.can.readable ≡ true → refused_here file (call_of asked) ≡ None
+accepts_here file asked live can = refused_so file asked ∙ accepts file asked live can
 
 accepted : (file : TextFile) (asked : Wanted) (reply : FileReply) (after : TextFile) → (reply, after) ≡ answered file asked (text_rest file) → SettledBy file (call_of asked) None reply after
 accepted file (Characters None) reply after exact = exact

@@ -1,5 +1,5 @@
 -- The one clause of all calls of a text: what a call may answer and leave, over any buffered stream.
-use Rattle.std.specs.Prelude.{◌≡◌, ◌≢◌, ℕ, zero, ◌+◌, ◌<◌, ◌≤◌, ◌⊎◌, Bool, true, false, IsTrue, List, [], ◌∷◌, ◌++◌, length, Option, Some, None, String, Result, Ok, Err}
+use Rattle.std.specs.Prelude.{◌≡◌, ◌≢◌, ℕ, zero, suc, ℤ, pos, if◌then◌else◌, ◌+◌, ◌<◌, ◌≤◌, ◌⊎◌, Bool, true, false, IsTrue, List, [], ◌∷◌, ◌++◌, length, Option, Some, None, String, Result, Ok, Err}
 use Rattle.std.specs.declared.alloc.Global.{Global}
 use Rattle.py_flat.specs.declared.fault.IoFault.{IoFault}
 use Rattle.py_flat.specs.declared.fault.IoFault.TheVariants as fault
@@ -8,19 +8,20 @@ use Rattle.py_flat.specs.declared.life.Life.TheVariants as life
 use Rattle.py_flat.specs.Calls as binary
 use Rattle.py_flat.specs.Calls.{FileReply, Text, Count, Cookie, Done, NotReady, Unwritten, Refused}
 use Rattle.py_flat.specs.Causes.{rose, counted}
+use Rattle.py_flat.specs.Limits.{greatest_place}
 use Rattle.py_flat.specs.Lines.{first_line}
 use Rattle.py_flat.specs.ExactStep.{is_closed}
 use Rattle.py_plain.specs.declared.newlines.Newlines.{Newlines}
 use Rattle.py_plain.specs.NewlineRule.{line_end}
 use Rattle.py_codec.specs.Answers.{text_of}
-use Rattle.py_plain_text.specs.TextFile.{TextPlace, clean_at, TextSettings}
+use Rattle.py_plain_text.specs.TextFile.{TextPlace, clean_at, TextSettings, TextFile}
 use Rattle.py_plain_text.specs.TextOver.{TextOver}
 use Rattle.py_plain_text.specs.TextStep.{asks_any, place_taking}
 use Rattle.py_plain_text.specs.declared.text_cookie.TextIOCookie.{TextIOCookie}
 use Rattle.py_plain_text.specs.Cookie as cookie
 use Rattle.py_plain_text.specs.CookieView.{cookie_shown}
-use Rattle.py_plain_text.specs.Landing.{start_of, fed_by}
-use Rattle.py_plain_text.specs.TextCalls.{TextFileCall, Read, ReadLine, WriteText, Tell, Reconfigure, SetChunkSize, Flush, Close, Detach, OtherKind, changed}
+use Rattle.py_plain_text.specs.Landing.{start_of, fed_by, skips, start_place, place_inside}
+use Rattle.py_plain_text.specs.TextCalls.{TextFileCall, Read, ReadLine, WriteText, SeekText, Tell, Reconfigure, SetChunkSize, Flush, Close, Detach, OtherKind, changed}
 use Rattle.py_plain_text.specs.TextRefusals.{refusal}
 use Rattle.py_plain_text.specs.TextAllowed.{TextFileStep}
 use Rattle.py_plain_text.specs.TextWriting.{written_bytes}
@@ -32,7 +33,7 @@ use Rattle.py_stream.specs.Buffer.{Buffer, WhereShown, KeepsBuffer, IsClosedWith
 use Rattle.py_read_text.specs.TextState.{TextState, file_of}
 use Rattle.py_read_text.specs.Waiting.{ShowsAll}
 use Rattle.py_read_text.specs.Ahead.{ReadsNoFurther}
-use Rattle.py_read_text.specs.Owing.{all_owed, behind_own, IsJoined, given_by, OwesOn, LaysOwed, Starves, has_line_end, flushes_behind, StopsOwing, KeepsOpen, StaysWhileOwing, may_close, Closes}
+use Rattle.py_read_text.specs.Owing.{all_owed, behind_own, begins_at, IsJoined, given_by, OwesOn, LaysOwed, Starves, has_line_end, flushes_behind, StopsOwing, KeepsOpen, StaysWhileOwing, may_close, Closes}
 
 -- what the answer of a reading says, in the model's words
 abbrev pub text_reply : Result (Option (String Global)) IoFault → FileReply
@@ -47,11 +48,21 @@ cookie_reply (Err why) = Refused why
 
 -- Kinds of calls.
 
+-- what refuses a call before the buffer is asked for anything: a seek to the end isn't refused by where that is, which has to be asked for
+abbrev pub refused_here : TextFile → TextFileCall → Option IoFault
+refused_here file (SeekText sought whence) = refusal (record file { bytes = [] }) (SeekText sought whence)
+refused_here file call = refusal file call
+
 -- whether a call gives characters
 abbrev pub gives_text : TextFileCall → Bool
 gives_text (Read size) = true
 gives_text (ReadLine limit) = true
 gives_text call = false
+
+-- whether a call may read its buffer: it gives characters, or is a seek, whose cookie may feed bytes
+abbrev pub may_read : TextFileCall → Bool
+may_read (SeekText sought whence) = true
+may_read call = gives_text call
 
 -- whether a call calls no buffer: it asks for no character, only tells where the text stands, only changes settings, or is one that texts
 -- don't have
@@ -79,6 +90,8 @@ IsAnswerTo (Read size) (Refused (fault.UnicodeDecodeError start end)) = Unit {0}
 IsAnswerTo (ReadLine limit) (Text characters) = Unit {0}
 IsAnswerTo (ReadLine limit) (Refused (fault.UnicodeDecodeError start end)) = Unit {0}
 IsAnswerTo (WriteText text) (Count count) = count ≡ length text
+IsAnswerTo (SeekText sought whence) (Cookie bytes) = Unit {0}
+IsAnswerTo (SeekText sought whence) (Refused fault.CannotRestore) = Unit {0}
 IsAnswerTo Tell (Cookie bytes) = Unit {0}
 IsAnswerTo Tell reply = ⊥
 IsAnswerTo (Reconfigure changes) reply = reply ≡ Done
@@ -98,6 +111,7 @@ IsReplyTo writes (SetChunkSize size) reply = reply ≡ Done
 IsReplyTo writes (Read size) NotReady = Unit {0}
 IsReplyTo writes (ReadLine limit) NotReady = Unit {0}
 IsReplyTo writes (WriteText text) (Refused (fault.WouldBlock taken)) = IsTrue writes
+IsReplyTo writes (SeekText sought whence) (Refused (fault.WouldBlock taken)) = taken ≡ 0
 IsReplyTo writes Flush (Refused (fault.WouldBlock taken)) = IsTrue writes × (taken ≡ 0)
 IsReplyTo writes Close (Refused (fault.WouldBlock taken)) = IsTrue writes × (taken ≡ 0)
 IsReplyTo writes Detach (Refused (fault.WouldBlock taken)) = IsTrue writes × (taken ≡ 0)
@@ -145,7 +159,7 @@ pub record TakesText (size : Option ℕ) (characters : List ℕ) (dirty : Bool) 
   pub taken : after ≡ place_taking before (length characters) dirty
   pub within : (limit : ℕ) → size ≡ Some limit → length characters ≤ limit
 
--- the place after each reply of a call that writes nothing; a fault leaves it
+-- the place after each reply of a call that writes nothing and isn't a seek; a fault leaves it
 abbrev pub PlaceMoves : TextFileCall → Bool → FileReply → TextPlace → ℕ → TextPlace → Type 0
 PlaceMoves (Read None) false (Text characters) before end after = GoesToEnd before end after
 PlaceMoves (Read size) true (Text characters) before end after = TakesText size characters true before after
@@ -153,6 +167,7 @@ PlaceMoves (Read size) false (Text characters) before end after = TakesText size
 PlaceMoves (ReadLine limit) true (Text characters) before end after = TakesText limit characters true before after
 PlaceMoves (ReadLine limit) false (Text characters) before end after = TakesText limit characters (asks_any limit) before after
 PlaceMoves (WriteText text) short reply before end after = Unit {0}
+PlaceMoves (SeekText sought whence) short reply before end after = Unit {0}
 PlaceMoves call short reply before end after = after ≡ before
 
 -- a place n bytes further on
@@ -201,18 +216,52 @@ TextBlames call reply place far = Unit {0}
 
 -- Where a text tells that it stands.
 
--- bytes that are a cookie: it begins at no byte before that of the text place, and feeds none past what was taken from the buffer, or past
--- what the text owes itself
+-- bytes that are a cookie, which can be built: it begins at no byte before that which the text was put at last, or the item that it was put
+-- inside, and feeds none past what was taken from the buffer, or past what the text owes itself
 pub record TellsWithin (bytes : List ℕ) (text : TextOver Buffer) : Type 0 where
   pub told : cookie.Cookie
   pub bytes_are : cookie.parsed bytes ≡ Some told
-  pub forth : text.place.at ≤ start_of told
+  pub builds : cookie.is_buildable told ≡ true
+  pub forth : begins_at text.place ≤ start_of told
   pub within : start_of told + fed_by told ≤ behind_own text
 
 -- where a text tells that it stands, whether the raw tells or not
 abbrev pub TextTells : TextFileCall → FileReply → TextOver Buffer → Type 0
 TextTells Tell (Cookie bytes) text = TellsWithin bytes text
 TextTells call reply text = Unit {0}
+
+-- Where a text is put.
+
+-- the cookie that a seek goes by: the one given, one that tells where the text stands, or that of an end that was answered
+abbrev pub SeeksBy : TextOver Buffer → (sought : List ℕ) → (whence : ℤ) → cookie.Cookie → Type 0
+SeeksBy text sought (pos (suc zero)) goal = TellsWithin (cookie.cookie_bytes goal) text
+SeeksBy text sought (pos (suc (suc zero))) goal = (end : ℕ) × (end ≤ greatest_place) × (goal ≡ cookie.boundary_cookie end 0)
+SeeksBy text sought whence goal = goal ≡ cookie.cookie_of sought
+
+-- a seek put a text where its cookie says, and answered that
+pub record PutBy (before : TextOver Buffer) (sought : List ℕ) (whence : ℤ) (told : List ℕ) (after : TextPlace) : Type 0 where
+  pub goal : cookie.Cookie
+  pub by : SeeksBy before sought whence goal
+  pub says : told ≡ cookie.cookie_bytes goal
+  pub place : after ≡ (if skips goal then place_inside goal else start_place goal)
+
+-- a seek by a cookie that skips left a text, clean, at the cookie's start
+pub record PutAtStart (before : TextOver Buffer) (sought : List ℕ) (whence : ℤ) (after : TextPlace) : Type 0 where
+  pub goal : cookie.Cookie
+  pub by : SeeksBy before sought whence goal
+  pub skips : IsTrue (skips goal)
+  pub place : after ≡ start_place goal
+
+-- where a seek leaves a text: at the place of its cookie, or as it was; or at the start of a cookie that skips, where its bytes don't fit, or
+-- where reading them had to wait, failed, or ran out of memory, also on the way back, over a raw that takes memory
+abbrev pub TextSeeks : TextFileCall → FileReply → TextOver Buffer → TextPlace → Type 0
+TextSeeks (SeekText sought whence) (Cookie told) before after = PutBy before sought whence told after
+TextSeeks (SeekText sought whence) (Refused fault.CannotRestore) before after = PutAtStart before sought whence after
+TextSeeks (SeekText sought whence) (Refused (fault.WouldBlock taken)) before after = (after ≡ before.place) ⊎ PutAtStart before sought whence after
+TextSeeks (SeekText sought whence) (Refused fault.RawFault) before after = (after ≡ before.place) ⊎ PutAtStart before sought whence after
+TextSeeks (SeekText sought whence) (Refused fault.NoMemory) before after = (after ≡ before.place) ⊎ (IsTrue before.buffer.raw.takes_memory × PutAtStart before sought whence after)
+TextSeeks (SeekText sought whence) reply before after = after ≡ before.place
+TextSeeks call reply before after = Unit {0}
 
 -- The one clause of every call.
 
@@ -339,7 +388,7 @@ pub record Answers (before : TextState) (call : TextFileCall) (reply : FileReply
   -- what the buffer and its raw can do and tell stays, and the raw's counts never fall
   pub keeps : KeepsBuffer before.text.buffer after.text.buffer
   -- what the life, an ability or an argument refuses is answered with that, and leaves all as it was
-  pub refused : (why : IoFault) → refusal (file_of before) call ≡ Some why → LeavesText before (Refused why) reply after
+  pub refused : (why : IoFault) → refused_here (file_of before) call ≡ Some why → LeavesText before (Refused why) reply after
   -- a close of a closed text is done, and leaves all as it was
   pub again : closes_again before.text.life call ≡ true → LeavesText before Done reply after
   -- a short answer comes only where the raw's waits rose in this call, RawFault only where its faults did
@@ -356,9 +405,11 @@ pub record Answers (before : TextState) (call : TextFileCall) (reply : FileReply
   pub lines : ReadsOneLine before.text.settings.newline call reply
   -- which range may be refused
   pub blames : TextBlames call reply before.text.place after.text.buffer.place
-  -- where a text tells that it stands: no earlier than the byte of its place, and no further than what was taken from the buffer, or than
-  -- what it owes itself
+  -- where a text tells that it stands: no earlier than the byte that it was put at last, or the first of the item that it was put inside, and
+  -- no further than what was taken from the buffer, or than what it owes itself
   pub tells : TextTells call reply before.text
+  -- where a seek puts a text
+  pub seeks : TextSeeks call reply before.text after.text.place
   -- what the buffer owes and what the text itself does stand one behind the other, and how many characters were taken is bounded by where
   -- the buffer stands
   pub joined : IsJoined after.text
@@ -370,9 +421,9 @@ pub record Answers (before : TextState) (call : TextFileCall) (reply : FileReply
   -- some and the buffer failed, or where the buffer took all and was to be flushed behind them
   pub starves : Starves before.text call reply after.text
   -- which replies may come of a call that isn't refused
-  pub answer : refusal (file_of before) call ≡ None → IsReplyTo before.text.buffer.can.writable call reply
+  pub answer : refused_here (file_of before) call ≡ None → IsReplyTo before.text.buffer.can.writable call reply
   -- where no count of the raw rose, a call that isn't refused is answered in full, or ran out of memory
-  pub complete : refusal (file_of before) call ≡ None → rose before.text.buffer.raw.waits after.text.buffer.raw.waits ≡ false → rose before.text.buffer.raw.faults after.text.buffer.raw.faults ≡ false → IsComplete call reply after.short
+  pub complete : refused_here (file_of before) call ≡ None → rose before.text.buffer.raw.waits after.text.buffer.raw.waits ≡ false → rose before.text.buffer.raw.faults after.text.buffer.raw.faults ≡ false → IsComplete call reply after.short
   -- a flush, a close and a detaching need no memory but their raw's
   pub wants : WantsMemory call reply before.text.buffer
   -- a done close closes the buffer and its raw
@@ -396,7 +447,7 @@ pub record Answers (before : TextState) (call : TextFileCall) (reply : FileReply
   -- a wait hides nothing, where the text itself owes nothing
   pub hides : IsTrue after.short → gives_text call ≡ true → after.text.owed ≡ [] → HidesNothing before after
   -- what a wait leaves that ended a call which hands bytes on
-  pub stops : IsTrue after.short → StopsOwing (gives_text call) after.text
+  pub stops : IsTrue after.short → StopsOwing (may_read call) after.text
   -- what a call passed on
   pub passes : TextPasses before call reply after
   -- how far a call that gives and takes no characters moves the buffer

@@ -7,3 +7,4 @@ pub mod Knowing
 pub mod Reading
 pub mod Opening
 pub mod Writing
+pub mod Seeking

@@ -1,5 +1,5 @@
 -- What a text and its buffer owe, over any raw, and whether a call closes the raw.
-use Rattle.std.specs.Prelude.{◌≡◌, ◌≢◌, ◌⊎◌, ℕ, ◌+◌, ◌*◌, ◌-◌, ◌<◌, ◌≤◌, ◌||◌, ◌&&◌, nat_eq, Bool, true, false, IsTrue, List, [], ◌++◌, length, take, drop}
+use Rattle.std.specs.Prelude.{◌≡◌, ◌≢◌, ◌⊎◌, ℕ, ◌+◌, ◌*◌, ◌-◌, ◌<◌, ◌≤◌, ◌||◌, ◌&&◌, nat_eq, Bool, true, false, IsTrue, List, [], ◌++◌, length, take, drop, Option, Some, None}
 use Rattle.std.specs.List.{list_any}
 use Rattle.py_flat.specs.declared.fault.IoFault.TheVariants as fault
 use Rattle.py_flat.specs.declared.life.Life.{Life}
@@ -8,9 +8,9 @@ use Rattle.py_flat.specs.Bytes.{lay}
 use Rattle.py_flat.specs.Limits.{greatest_place}
 use Rattle.py_flat.specs.Lines.{lf, cr}
 use Rattle.py_flat.specs.Calls.{FileReply, Done, Refused}
-use Rattle.py_plain_text.specs.TextFile.{TextSettings}
+use Rattle.py_plain_text.specs.TextFile.{Front, TextPlace, TextSettings}
 use Rattle.py_plain_text.specs.TextOver.{TextOver}
-use Rattle.py_plain_text.specs.TextCalls.{TextFileCall, WriteText, Close}
+use Rattle.py_plain_text.specs.TextCalls.{TextFileCall, WriteText, SeekText, Close}
 use Rattle.py_plain_text.specs.TextWriting.{written_bytes}
 use Rattle.py_raw.specs.RawStream.{Raw, StaysOpen, AnswersFor}
 use Rattle.py_stream.specs.Stream.{Stream, size_of}
@@ -27,19 +27,27 @@ all_owed text = text.buffer.owed.bytes ++ text.owed
 abbrev pub behind_own : TextOver Buffer → ℕ
 behind_own text = text.buffer.place + length text.owed
 
+-- the byte that a text was put at last, or where it was put inside an item, the first of that
+abbrev pub begins : Option Front → (at : ℕ) → ℕ
+begins None at = at
+begins (Some front) at = front.start
+
+abbrev pub begins_at : TextPlace → ℕ
+begins_at place = begins place.front place.at
+
 -- what a buffer owes ends where it stands, and bytes that a text owes itself begin there; where any of both are owed the text stands
--- behind them. It stands nowhere further on, and that no further than a stream can. No more characters were taken since the byte of its
--- place than six for each byte from there to where the buffer stands
-pub record JoinsAt (buffer : Buffer) (own : List ℕ) (at taken : ℕ) : Type 0 where
+-- behind them. It stands nowhere further on, and that no further than a stream can. No more characters were taken since it was put at its
+-- place than six for each byte from where that begins to where the buffer stands
+pub record JoinsAt (buffer : Buffer) (own : List ℕ) (from at taken : ℕ) : Type 0 where
   pub below : OwesUpTo buffer.owed buffer.place
   pub stands : ((buffer.owed.bytes ≡ []) × (own ≡ [])) ⊎ (at ≡ buffer.place + length own)
   pub behind : at ≤ buffer.place + length own
   pub far : buffer.place + length own ≤ greatest_place
-  pub few : taken ≤ 6 * (buffer.place - at)
+  pub few : taken ≤ 6 * (buffer.place - from)
 
 -- what a text and its buffer owe stands in one piece
 abbrev pub IsJoined : TextOver Buffer → Type 0
-IsJoined text = JoinsAt text.buffer text.owed text.place.at text.place.taken
+IsJoined text = JoinsAt text.buffer text.owed (begins_at text.place) text.place.at text.place.taken
 
 -- of bytes that were owed the first were passed on, exactly as many as the raw answered for, and the rest is owed
 pub record PassesOwed (before : Raw) (owed : List ℕ) (after : Raw) (left : List ℕ) : Type 0 where
@@ -81,6 +89,11 @@ abbrev pub LaysOwed : TextOver Buffer → (owed : List ℕ) → TextOver Buffer 
 LaysOwed before owed after = WhereShown before.buffer (LaysFront before.buffer.raw.bytes (all_from before) owed after.buffer.raw.bytes)
 
 -- Running out of memory.
+
+-- whether a call puts the text at a place
+abbrev pub is_seek : TextFileCall → Bool
+is_seek (SeekText sought whence) = true
+is_seek call = false
 
 -- where what the text itself owes begins; without any, the text place, where the bytes of a write would
 abbrev pub own_from : TextOver Buffer → ℕ
@@ -130,20 +143,27 @@ pub record FailsStarved (before : TextOver Buffer) (call : TextFileCall) (after 
   pub has : HasOwn before call
   pub gave : GaveOwn (flushes_behind before.settings call) before after
 
+-- running out of memory left a live text at another place, over a raw that takes memory, in a seek (`TextSeeks` says where)
+pub record MovesStarved (before : TextOver Buffer) (call : TextFileCall) (after : TextOver Buffer) : Type 0 where
+  pub seeks : is_seek call ≡ true
+  pub takes : IsTrue before.buffer.raw.takes_memory
+  pub life_is : after.life ≡ before.life
+  pub settings : after.settings ≡ before.settings
+
 -- running out of memory fails a text only over a raw that takes memory, in a call that has bytes of its own to hand on, and only once the
 -- raw took some of them and the buffer failed, or where the buffer took all and was to be flushed behind them; else it leaves the text as it
--- was
+-- was, but for where a seek by a cookie that skips may leave it
 abbrev pub Starves : TextOver Buffer → TextFileCall → FileReply → TextOver Buffer → Type 0
-Starves before call (Refused fault.NoMemory) after = StaysAsItWas before after ⊎ FailsStarved before call after
+Starves before call (Refused fault.NoMemory) after = StaysAsItWas before after ⊎ (FailsStarved before call after ⊎ MovesStarved before call after)
 Starves before call reply after = Unit {0}
 
 -- A wait.
 
 -- a wait ended a call: while the text has bytes of its own left the buffer is full of bytes that it owes, up to its place; and of a call
--- that gives no characters some bytes are owed
-pub record StopsOwing (gives : Bool) (after : TextOver Buffer) : Type 0 where
+-- that reads nothing some bytes are owed
+pub record StopsOwing (reads : Bool) (after : TextOver Buffer) : Type 0 where
   pub full : after.owed ≢ [] → IsFull after.buffer.owed after.buffer.place (size_of (stream_shown after.buffer))
-  pub some : gives ≡ false → after.owed ≡ [] → after.buffer.owed.bytes ≢ []
+  pub some : reads ≡ false → after.owed ≡ [] → after.buffer.owed.bytes ≢ []
 
 -- What becomes of the raw.
 

@@ -26,7 +26,7 @@ use Rattle.py_held_text.specs.Finding as held_front
 use Rattle.py_held_text.specs.Finding.{enough, enough_before}
 use Rattle.py_codec.specs.Answers.{text_of}
 use Rattle.py_plain_text.specs.Rest.{Rest}
-use Rattle.py_read_text.specs.Knowing.{TextView, place_of, shown_file}
+use Rattle.py_read_text.specs.Knowing.{TextView, place_of, shown_file, HasFront}
 use Rattle.py_read_text.specs.declared.read_text.Chunk.{Chunk}
 use Rattle.py_read_text.specs.declared.read_text.Chunk.TheVariants as chunk
 use Rattle.py_read_text.specs.declared.looking.Gathered.{Gathered}
@@ -57,6 +57,8 @@ pub record Follows (Behind : List ℕ → Type 0) (old new : HeldView) : Type 0 
   pub order : new.order ≡ old.order
   pub base : base_of new ≡ base_of old
   pub whole : whole_of new ≡ whole_of old
+  pub front : new.front ≡ old.front
+  pub has : HasFront old → HasFront new
   pub given : new.given ≡ old.given
   pub bases : (more : List ℕ) → Behind more → (gone : List ℕ) → KnowsBases more old gone → KnowsBases more new gone
   pub ended : (more : List ℕ) → Behind more → (old.ended ≡ true → more ≡ []) → new.ended ≡ true → more ≡ []
@@ -80,18 +82,17 @@ abbrev pub passes : Wanted → Newlines → List ℕ → Bool
 passes (Characters size) rule cs = asks_past size cs
 passes (Line limit) rule cs = not (is_ended (line_end rule) limit cs)
 
--- Reading the buffer.
+-- Calling the buffer.
 
--- the buffer was read from: `waited` says that the raw would have blocked, `faulted` that it failed. The flat bytes stay, and the raw isn't
--- closed; a buffer that can't write and owes nothing leaves its raw's bytes
-pub record Reads (before : Buffer) (waited faulted : Bool) (after : Buffer) : Type 0 where
+-- the buffer was called, and was given no byte: `waited` says that the raw would have blocked, `faulted` that it failed. The flat bytes stay,
+-- and the raw isn't closed; a buffer that can't write and owes nothing leaves its raw's bytes
+pub record Calls (before : Buffer) (waited faulted : Bool) (after : Buffer) : Type 0 where
   pub keeps : KeepsBuffer before after
   pub wait : IsTrue waited → Rose before.raw.waits after.raw.waits
   pub fault : IsTrue faulted → Rose before.raw.faults after.raw.faults
   pub waits : IsTrue before.raw.counts_exactly → after.raw.waits ≡ (if waited then counted before.raw.waits 1 else before.raw.waits)
   pub faults : IsTrue before.raw.counts_exactly → faulted ≡ false → after.raw.faults ≡ before.raw.faults
   pub life_is : after.life ≡ (if faulted then life.Failed else before.life)
-  pub forth : before.place ≤ after.place
   pub far : after.place ≤ greatest_place
   pub bytes : WhereShown before ((flat_of after).bytes ≡ (flat_of before).bytes)
   pub spares : before.can.writable ≡ false → before.owed ≡ nothing_owed before.place → SparesBytes before after
@@ -103,6 +104,8 @@ pub record Reads (before : Buffer) (waited faulted : Bool) (after : Buffer) : Ty
   pub none : before.owed.bytes ≡ [] → after.owed.bytes ≡ []
   pub first : (after.place ≡ before.place) ⊎ (after.owed.bytes ≡ [])
 
+-- Reading it.
+
 -- told: a front of what is left, empty only at the end
 pub record GaveTold (before : Buffer) (part : List ℕ) : Type 0 where
   pub front : IsFrontOf part (left_at (flat_of before).bytes before.place)
@@ -110,14 +113,14 @@ pub record GaveTold (before : Buffer) (part : List ℕ) : Type 0 where
 
 -- some bytes came, at most so many, none only at the end
 pub record Gave (before : Buffer) (size : ℕ) (part : List ℕ) (after : Buffer) : Type 0 where
-  pub reads : Reads before false false after
+  pub reads : Calls before false false after
   pub fits : length part ≤ size
   pub place : after.place ≡ before.place + length part
   pub told : WhereShown before (GaveTold before part)
 
 -- nothing came
 pub record GaveNothing (before : Buffer) (waited faulted : Bool) (after : Buffer) : Type 0 where
-  pub reads : Reads before waited faulted after
+  pub reads : Calls before waited faulted after
   pub place : after.place ≡ before.place
 
 -- the raw would have blocked before anything came, and the buffer holds nothing back
@@ -184,6 +187,7 @@ asks_none asked = false
 
 -- all of a text but its buffer and what is in hand
 pub record KeepsPlace (old new : TextView) : Type 0 where
+  pub front : new.front ≡ old.front
   pub at : new.at ≡ old.at
   pub taken : new.taken ≡ old.taken
   pub dirty : new.dirty ≡ old.dirty
@@ -199,13 +203,13 @@ pub record Brings (old new : TextView) : Type 0 where
   pub some : part ≢ []
   pub few : length part ≤ old.settings.chunk_size
   pub held : new.held ≡ record old.held { bytes = old.held.bytes ++ part; room = new.held.room }
-  pub reads : Reads old.buffer false false new.buffer
+  pub reads : Calls old.buffer false false new.buffer
   pub place : new.buffer.place ≡ old.buffer.place + length part
 
 -- no byte came: `waited` and `faulted` say whether the raw would have blocked, or failed
 pub record BringsNothing (old : TextView) (waited faulted : Bool) (new : TextView) : Type 0 where
   pub held : HoldsAsBefore old new
-  pub reads : Reads old.buffer waited faulted new.buffer
+  pub reads : Calls old.buffer waited faulted new.buffer
   pub place : new.buffer.place ≡ old.buffer.place
 
 -- nothing comes behind what was taken
@@ -265,7 +269,7 @@ GatherStop asked (Err fault.NoMemory) new = Unit {0}
 GatherStop asked (Err other) new = ⊥
 
 abbrev pub GatherOutcome : TextView → Wanted → Result Gathered IoFault → TextView → Type 0
-GatherOutcome old asked result new = Reads old.buffer (gathers_wait result) (gathers_fault result) new.buffer × GatherStop asked result new
+GatherOutcome old asked result new = Calls old.buffer (gathers_wait result) (gathers_fault result) new.buffer × GatherStop asked result new
 
 -- told, a call asked its buffer for no chunk that it needn't
 abbrev pub GathersAsNeeded : TextView → Wanted → TextView → Type 0
@@ -274,7 +278,8 @@ GathersAsNeeded old asked new = WhereShown old.buffer (AsksAsNeeded (shown_file 
 -- so far nothing but bytes came, as they were needed; of a call that asks for no character none were asked for
 pub record Gathers (old : TextView) (asked : Wanted) (new : TextView) : Type 0 where
   pub place : KeepsPlace old new
-  pub reads : Reads old.buffer false false new.buffer
+  pub reads : Calls old.buffer false false new.buffer
+  pub forth : old.buffer.place ≤ new.buffer.place
   pub nothing : asks_none asked ≡ true → new.buffer ≡ old.buffer
   pub needs : GathersAsNeeded old asked new
 
@@ -285,7 +290,7 @@ GiveOutcome old count asks (Err why) new = (why ≡ fault.NoMemory) × (new ≡ 
 
 -- all known characters are given, and the text stands clean at the end
 abbrev pub GiveAllOutcome : TextView → Result (String Global) IoFault → TextView → Type 0
-GiveAllOutcome old (Ok text) new = (text_of text ≡ old.held.known) × (new ≡ record old { held = cleared old.held old.buffer.place new.held.room; at = old.buffer.place; taken = 0; dirty = false })
+GiveAllOutcome old (Ok text) new = (text_of text ≡ old.held.known) × (new ≡ record old { held = cleared old.held old.buffer.place new.held.room; front = None; at = old.buffer.place; taken = 0; dirty = false })
 GiveAllOutcome old (Err why) new = (why ≡ fault.NoMemory) × (new ≡ old)
 
 -- Answers.

@@ -10,8 +10,9 @@ use Rattle.py_stream.specs.Buffer.{Buffer, WhereShown, flat_of, KeepsBuffer, IsC
 use Rattle.py_read_text.specs.Answers.{StandsWhileLive}
 use Rattle.py_read_text.specs.Knowing.{TextView, IsClean}
 
--- a text stands, clean, where its buffer stands; its settings are as they were
+-- a text stands, clean, where its buffer stands; its settings are as they were, and it was put inside no item in between
 pub record StandsBehind (old new : TextView) : Type 0 where
+  pub front : new.front ≡ old.front
   pub at : new.at ≡ new.buffer.place
   pub clean : IsClean new
   pub settings : new.settings ≡ old.settings

@@ -7,6 +7,7 @@
 mod looking;
 mod opening;
 mod read_text;
+mod seeking;
 
 pub use opening::{place_of, refusal};
 pub use read_text::{Answer, ReadText};

@@ -1,10 +1,10 @@
 //! The text over a buffered stream: it asks for chunks, decodes what it has in hand, and answers from the characters that it knows. It holds
 //! what an answer has and a chunk behind it: of a `read` of all the whole rest, also where that is refused. It holds the
 //! bytes of what it knows, too, and of the last characters that it gave.
-ghost use Rattle.std.specs.Prelude.{◌≡◌, Bool, ◌<◌, ◌≤◌, ◌+◌, ◌||◌, true, false, [], length, take, drop, OnErr, IfOk, IfErr, IfSome, MatchResult};
+ghost use Rattle.std.specs.Prelude.{◌≡◌, ℕ, ℤ, List, Bool, ◌<◌, ◌≤◌, ◌+◌, ◌||◌, true, false, [], length, take, drop, pos, None, OnErr, IfOk, IfErr, IfSome, MatchResult};
 ghost use Rattle.py_flat.specs.Calls as binary;
 ghost use Rattle.py_flat.specs.Calls.{Write};
-ghost use Rattle.py_plain_text.specs.TextCalls.{Flush, Close, changes_reading, changed};
+ghost use Rattle.py_plain_text.specs.TextCalls.{SeekText, Flush, Close, changes_reading, changed};
 ghost use Rattle.py_stream.specs.Kinds.{says_wait};
 ghost use Rattle.py_stream.specs.Replies.{count_reply, done_reply};
 ghost use Rattle.py_flat.specs.Limits.{greatest_place};
@@ -21,14 +21,19 @@ ghost use Rattle.py_plain_text.specs.Telling.{told};
 ghost use Rattle.py_telling.specs.ToldView.{told_shown, IsTold};
 ghost use Rattle.py_read_text.specs.Knowing.{over_of, state_of, shown_file, IsClean, IsSetTo};
 ghost use Rattle.py_read_text.specs.Writing.{StandsBehind, ReturnOutcome};
-ghost use Rattle.py_read_text.specs.Owing.{IsJoined};
+ghost use Rattle.py_plain_text.specs.CookieView.{cookie_shown};
+ghost use Rattle.py_plain_text.specs.Landing.{start_of, skips};
+ghost use Rattle.py_read_text.specs.Seeking.{Seeks, TextGoes, SeekOutcome, sought_reply};
+ghost use Rattle.py_read_text.specs.Owing.{begins, IsJoined};
 ghost use Rattle.py_read_text.specs.Answers.{Answers};
 
 use crate::looking::{Gathered, look, look_at_end};
 use crate::opening::reading_coder;
+use crate::seeking::{Landing, MOST_FED, go_to, land, skips, start_of};
 use py_flat::{IoFault, Life};
 use py_held_text::{Coder, HeldFront, HeldText, Wanted};
 use py_plain::Newlines;
+use py_plain_text::TextIOCookie;
 use py_stream::BufferedStream;
 use py_telling::Told;
 use py_text::{Reconfigure, TextSettings};
@@ -73,15 +78,38 @@ fn asks_any(wanted: Wanted) -> bool
     }
 }
 
+/// Whether characters were asked for, by a call or before it.
+fn dirtied(dirty: bool, asks: bool) -> bool
+    ensures { result ≡ (dirty || asks) }
+{
+    dirty || asks
+}
+
+/// Where a text stands inside an item of which so many characters were taken behind those that are skipped.
+fn further(inside: Told, taken: u128) -> Told
+    requires few { inside.skipped + taken ≤ 24 }
+    ensures start { result.start ≡ inside.start }
+    ensures length { result.length ≡ inside.length }
+    ensures skipped { result.skipped ≡ inside.skipped + taken }
+{
+    Told {
+        skipped: inside.skipped + taken as usize,
+        ..inside
+    }
+}
+
 /// A text over a buffered stream, as far as it reads: a layer above sees to lives and abilities.
 ///
-/// It is seen as what its buffer is seen as, what it has in hand, its place and its settings.
+/// It is seen as what its buffer is seen as, what it has in hand, its place and its settings. It may have been put inside an item: then what
+/// is left of that comes first, and the text behind it. Only a dirty text stands so.
 #[derive(Drop)]
 pub struct ReadText<B: BufferedStream> {
     buffer: B,
     held: HeldText,
     coder: Coder,
     settings: TextSettings,
+    /// Where the text was put inside an item, with the characters that are skipped: it goes on behind that item.
+    inside: Option<Told>,
     at: u64,
     taken: u128,
     dirty: bool,
@@ -89,20 +117,21 @@ pub struct ReadText<B: BufferedStream> {
 
 impl<B: BufferedStream> Model for ReadText<B> {
     ghost use Rattle.py_read_text.specs.TextState.{settings_of};
-    ghost use Rattle.py_read_text.specs.Knowing.{TextView, IsText};
+    ghost use Rattle.py_read_text.specs.Knowing.{TextView, IsText, front_shown};
 
     ghost Value = { TextView };
 
     ghost view = { λ t. record {
       buffer = B.shows t.buffer;
       held = t.held;
+      front = front_shown t.inside;
       at = t.at;
       taken = t.taken;
       dirty = t.dirty;
       settings = settings_of t.coder t.settings;
     } };
 
-    ghost invariant = { λ t. IsText (B.shows t.buffer) t.held t.at t.taken (settings_of t.coder t.settings) };
+    ghost invariant = { λ t. IsText (B.shows t.buffer) t.held (front_shown t.inside) t.at t.taken t.dirty (settings_of t.coder t.settings) };
 }
 
 // Only how much is in hand, and not what: thousands of characters would hide all else.
@@ -128,6 +157,7 @@ impl<B: BufferedStream> ReadText<B> {
         requires stands { place ≡ (B.shows buffer).place }
         requires far { place ≤ greatest_place }
         ensures buffer { result.buffer ≡ B.shows buffer }
+        ensures front { result.front ≡ None }
         ensures at { result.at ≡ place }
         ensures taken { result.taken ≡ 0 }
         ensures dirty { result.dirty ≡ false }
@@ -142,6 +172,7 @@ impl<B: BufferedStream> ReadText<B> {
             held: HeldText::new(alloc, reading, settings.newline, place),
             coder,
             settings,
+            inside: None,
             at: place,
             taken: 0,
             dirty: false,
@@ -203,9 +234,9 @@ impl<B: BufferedStream> ReadText<B> {
         self.settings.chunk_size = size;
     }
 
-    /// Changes settings; those that aren't given stay. How a text is read may change only while no character of it was taken.
+    /// Changes settings; those that aren't given stay. How a text is read may change only while it is clean.
     pub fn reconfigure(&mut self, changes: Reconfigure)
-        requires clean { changes_reading (changes_of changes) ≡ true → self.old.taken ≡ 0 }
+        requires clean { changes_reading (changes_of changes) ≡ true → IsClean self.old }
         requires reads { self.old.buffer.can.readable ≡ true → IfSome changes.errors (λ handler. reads_texts handler ≡ true) }
         ensures changed { IsSetTo (changed self.old.settings (changes_of changes)) self.old self.new }
         ensures joined { IsJoined (over_of self.new) }
@@ -220,9 +251,9 @@ impl<B: BufferedStream> ReadText<B> {
         self.write_as(settings.line_buffering, settings.write_through);
     }
 
-    /// Reads by another codec and rule from the text place on, behind which no character was taken: what was decoded is decoded anew.
+    /// Reads by another codec and rule from the place of a clean text on: what was decoded is decoded anew.
     fn read_as(&mut self, coder: Coder, newline: Newlines)
-        requires clean { self.old.taken ≡ 0 }
+        requires clean { IsClean self.old }
         requires reads { self.old.buffer.can.readable ≡ true → reads_texts coder.errors ≡ true }
         ensures { IsSetTo (record self.old.settings { encoding = coder.encoding; handler = coder.errors; newline = newline }) self.old self.new }
     {
@@ -276,21 +307,133 @@ impl<B: BufferedStream> ReadText<B> {
     pub fn tell(&mut self) -> Told
         requires live { self.old.buffer.life ≡ Life.Live }
         ensures told { WhereShown self.old.buffer (told_shown result ≡ told (shown_file self.old)) }
-        ensures forth { self.old.at ≤ result.start }
+        ensures forth { begins self.old.front self.old.at ≤ result.start }
         ensures fits { result.start + result.length ≤ self.old.buffer.place }
         ensures within { IsTold result }
         ensures same { self.new ≡ self.old }
     {
-        if self.taken == 0 {
-            return Told {
-                start: self.at,
-                length: 0,
-                skipped: 0,
-            };
-        }
         // The handler of what is in hand is one that texts are read with.
         let _ = self.held.coder();
+        let put = self.inside.unwrap_or(Told {
+            start: self.at,
+            length: 0,
+            skipped: 0,
+        });
+        if self.held.front() > 0 {
+            return further(put, self.taken);
+        }
+        if self.inside.is_none() && self.taken == 0 {
+            return put;
+        }
         self.held.tell()
+    }
+
+    /// Goes to a byte place, clean.
+    fn go(&mut self, place: u64) -> Result<(), IoFault>
+        requires live { self.old.buffer.life ≡ Life.Live }
+        requires seeks { self.old.buffer.can.seekable ≡ true }
+        requires appends { self.old.buffer.can.appending ≡ false }
+        requires near { place ≤ greatest_place }
+        ensures outcome { TextGoes self.old place result self.new }
+        ensures joined { IsJoined (over_of self.new) }
+    {
+        // What holds of every text is known from here on.
+        let _ = &self.held;
+        match go_to(&mut self.buffer, place) {
+            Ok(()) => {
+                self.held.clear(place);
+                self.inside = None;
+                self.at = place;
+                self.taken = 0;
+                self.dirty = false;
+                Ok(())
+            }
+            Err(fault) => Err(fault),
+        }
+    }
+
+    /// Goes where a cookie that skips characters says.
+    fn go_inside(&mut self, alloc: Global, cookie: &TextIOCookie) -> Result<(), IoFault>
+        requires live { self.old.buffer.life ≡ Life.Live }
+        requires seeks { self.old.buffer.can.seekable ≡ true }
+        requires appends { self.old.buffer.can.appending ≡ false }
+        requires near { start_of (cookie_shown cookie.now) ≤ greatest_place }
+        requires flags { (cookie_shown cookie.now).dec_flags ≡ pos 0 }
+        requires skips { skips (cookie_shown cookie.now) ≡ true }
+        ensures outcome { SeekOutcome self.old (cookie_shown cookie.now) result self.new }
+        ensures joined { IsJoined (over_of self.new) }
+    {
+        let start = start_of(cookie);
+        let from = self.held.place() + self.held.undecoded() as u64;
+        let coder = self.held.coder();
+        self.held.reserve(MOST_FED)?;
+        let mut fed = Vec::new(alloc);
+        fed.reserve(MOST_FED)?;
+        match land(&mut self.buffer, alloc, coder, cookie, from, &mut fed) {
+            Landing::Inside(text, skipped) => {
+                let at = start + fed.len() as u64;
+                self.held.stand_behind(at, text, skipped);
+                self.inside = Some(Told {
+                    start,
+                    length: fed.len(),
+                    skipped: skipped.chars,
+                });
+                self.at = at;
+                self.taken = 0;
+                self.dirty = true;
+                Ok(())
+            }
+            Landing::Start(fault) => {
+                self.held.clear(start);
+                self.held.push(&fed);
+                self.inside = None;
+                self.at = start;
+                self.taken = 0;
+                self.dirty = false;
+                Err(fault)
+            }
+            Landing::Back(fault) => Err(fault),
+        }
+    }
+
+    /// Goes where a cookie says.
+    fn go_by(&mut self, alloc: Global, cookie: &TextIOCookie) -> Result<(), IoFault>
+        requires live { self.old.buffer.life ≡ Life.Live }
+        requires seeks { self.old.buffer.can.seekable ≡ true }
+        requires appends { self.old.buffer.can.appending ≡ false }
+        requires near { start_of (cookie_shown cookie.now) ≤ greatest_place }
+        requires flags { (cookie_shown cookie.now).dec_flags ≡ pos 0 }
+        ensures outcome { SeekOutcome self.old (cookie_shown cookie.now) result self.new }
+        ensures joined { IsJoined (over_of self.new) }
+    {
+        if skips(cookie) {
+            return self.go_inside(alloc, cookie);
+        }
+        self.go(start_of(cookie))
+    }
+
+    /// Puts the live text where a cookie says: at the byte where it begins, clean; or, where it skips characters, inside the item that it feeds,
+    /// behind those.
+    ///
+    /// `CannotRestore` where a cookie that skips doesn't fit the bytes that lie at its start, or the buffer can't be read: the text stands there,
+    /// clean. `WouldBlock`: the raw would have blocked as its buffer passed on what it owes, and the text stands where it stood; or as the bytes fed
+    /// were read: then it stands, clean, at the cookie's start. `NoMemory` leaves the text where it stood; but over a raw that takes memory it
+    /// stands, clean, at the start of a cookie that skips, where memory ran out as the bytes fed were read, and again on the way back. `RawFault`:
+    /// the raw failed, and the text with it, where it stood or, where the bytes fed were being read, clean at the cookie's start.
+    pub fn seek_to(&mut self, alloc: Global, cookie: &TextIOCookie) -> Result<(), IoFault>
+        requires live { self.old.buffer.life ≡ Life.Live }
+        requires seeks { self.old.buffer.can.seekable ≡ true }
+        requires appends { self.old.buffer.can.appending ≡ false }
+        requires near { start_of (cookie_shown cookie.now) ≤ greatest_place }
+        requires flags { (cookie_shown cookie.now).dec_flags ≡ pos 0 }
+        ensures joined { IsJoined (over_of self.new) }
+        ensures answers { (sought : List ℕ) (whence : ℤ) → Seeks self.old sought whence (cookie_shown cookie.now)
+            → Answers (state_of self.old false) (SeekText sought whence) (sought_reply (cookie_shown cookie.now) result)
+            (state_of self.new (says_wait (sought_reply (cookie_shown cookie.now) result))) }
+    {
+        // What holds of every text is known from here on.
+        let _ = self.life();
+        self.go_by(alloc, cookie)
     }
 
     /// How many bytes the buffer took of the last that were written to it.
@@ -363,6 +506,7 @@ impl<B: BufferedStream> ReadText<B> {
             held: _,
             coder: _,
             settings: _,
+            inside: _,
             at,
             taken: _,
             dirty: _,
@@ -422,7 +566,7 @@ impl<B: BufferedStream> ReadText<B> {
     {
         let text = self.held.give(alloc, front)?;
         self.taken += front.chars as u128;
-        self.dirty = self.dirty || asks;
+        self.dirty = dirtied(self.dirty, asks);
         Ok(text)
     }
 
@@ -435,6 +579,7 @@ impl<B: BufferedStream> ReadText<B> {
     {
         let front = self.held.find_last(Wanted::Characters(None));
         let text = self.held.give(alloc, front)?;
+        self.inside = None;
         self.at = self.held.place();
         self.held.clear(self.at);
         self.taken = 0;

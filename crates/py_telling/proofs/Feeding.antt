@@ -1,15 +1,17 @@
 -- The bytes that a cookie feeds, where they are one item.
-use Rattle.std.proofs.Common.{◌≡◌, ℕ, zero, suc, ◌+◌, ◌<◌, ◌≤◌, Bool, false, nat_eq, List, [], ◌∷◌, length as len, drop, take, Option, Some, None, encode_utf8_all, refl, ap, ◌∙◌, arith}
+use Rattle.std.proofs.Common.{◌≡◌, ℕ, zero, suc, ◌+◌, ◌<◌, ◌≤◌, Bool, true, false, nat_eq, List, [], ◌∷◌, length as len, drop, take, Option, Some, None, encode_utf8_all, refl, sym, ap, ◌∙◌, arith, append-nil}
 use Rattle.std.proofs.lemmas.Bool.{eq-eqb, cond-true, cond-false}
 use Rattle.std.proofs.lemmas.Bool.Decides.{nat_tests}
 use Rattle.std.proofs.lemmas.List.{length-drop, length-take-le}
 use Rattle.py_plain.specs.declared.encoding.Encoding.{Encoding}
 use Rattle.py_plain.specs.declared.handler.Handler.{Handler}
 use Rattle.py_plain.specs.Units.{Order}
-use Rattle.py_plain.specs.Handlers.{Treatment, treatment}
-use Rattle.py_plain.specs.Items.{Item, Ending, AtEnd, AtRange, AtCut, Walk, Given, first_item, onto_walk}
+use Rattle.py_plain.specs.Handlers.{Treatment, treatment, reads_texts}
+use Rattle.py_plain.specs.Items.{Item, Ending, AtEnd, AtRange, AtCut, Walk, Given, characters_of, first_item, onto_walk}
 use Rattle.py_plain.specs.Pieces.{walk_at}
+use Rattle.py_plain.proofs.Looking.{reading}
 use Rattle.py_plain_text.specs.Landing.{only_item}
+use Rattle.py_plain_text.proofs.Standing.{only_back, final_by}
 use Rattle.py_telling.specs.declared.seen_item.SeenItem.TheVariants as seen
 use Rattle.py_telling.specs.Seen.{StandFor, Shows}
 use Rattle.py_telling.specs.Restoring.{IsCount}
@@ -88,3 +90,32 @@ count_none encoding handler last order place bytes none =
     let walk : Walk = walk_at encoding (treatment handler encoding) last order place bytes in
     let is : one_in encoding handler last order place bytes ≡ None = ap (λ (items : List Item). only_item (len bytes) items walk.ending) (ended_by encoding (treatment handler encoding) last order place bytes none) in
     rw is refl
+
+-- Where nothing comes behind them.
+
+-- an item of which fewer are skipped than it has
+some_counted : (count skipped : ℕ) (characters : Option (List ℕ)) → IsCount count characters → skipped < count → (cs : List ℕ) × ((characters ≡ Some cs) × (skipped < len cs))
+some_counted count skipped None none less = absurd (omega (arith, none, less))
+some_counted count skipped (Some cs) counted less = (cs, (refl, omega (arith, less, counted.0)))
+
+-- its characters are all that its walk has
+within_one : (size skipped : ℕ) (item : Item) (cs : List ℕ) → item.length ≡ size → only_item size (item ∷ []) AtEnd ≡ Some cs → skipped < len cs → skipped < len (characters_of (item ∷ []))
+within_one size skipped item cs whole is less =
+    let same : Some item.characters ≡ Some cs = sym (cond-true (nat_eq item.length size) (Some item.characters) None (eq-eqb item.length size whole)) ∙ is in
+    let characters : item.characters ≡ cs = cc in
+    omega (arith, less, ap len characters, ap len (append-nil item.characters))
+
+-- what is skipped of the one item that some bytes are lies within the characters that they are where nothing comes behind them
+pub skipped_within : (encoding : Encoding) (handler : Handler) → reads_texts handler ≡ true → (last : Bool) (order : Order) (place : ℕ) (bytes : List ℕ) (count skipped : ℕ) → Counted count encoding handler last order place bytes → skipped < count → skipped < len (characters_of (walk_at encoding (treatment handler encoding) true order place bytes).items)
+skipped_within encoding handler reads last order place bytes count skipped counted less =
+    let treat : Treatment = treatment handler encoding in
+    let walk : Walk = walk_at encoding treat last order place bytes in
+    let some = some_counted count skipped (only_item (len bytes) walk.items walk.ending) counted less in
+    let only = only_back (len bytes) walk.items walk.ending some.0 some.1.0 in
+    let final = final_by encoding treat (reading handler encoding reads) last order place bytes (only.0 ∷ []) only.1.0 only.1.1 in
+    let is : only_item (len bytes) (only.0 ∷ []) AtEnd ≡ Some some.0 =
+    sym (ap (λ (items : List Item). only_item (len bytes) items walk.ending) only.1.0
+    ∙ ap (only_item (len bytes) (only.0 ∷ [])) only.1.1)
+    ∙ some.1.0 in
+    let within = within_one (len bytes) skipped only.0 some.0 only.1.2 is some.1.1 in
+    omega (arith, within, ap (λ (items : List Item). len (characters_of items)) final.items_are)

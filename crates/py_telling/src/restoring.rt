@@ -1,10 +1,11 @@
-ghost use Rattle.std.specs.Prelude.{◌≡◌, ◌<◌, ◌&&◌, ℕ, true, length};
-ghost use Rattle.py_plain.specs.Units.{Order};
+ghost use Rattle.std.specs.Prelude.{◌≡◌, ◌<◌, ◌≤◌, ◌&&◌, ℕ, true, length};
+ghost use Rattle.py_plain.specs.Units.{Order, Unknown};
 ghost use Rattle.py_plain.specs.Handlers.{treatment, reads_texts};
+ghost use Rattle.py_plain.specs.Items.{characters_of, walk_from};
 ghost use Rattle.py_plain.specs.Pieces.{walk_at};
 ghost use Rattle.py_plain_text.specs.TextFile.{TextFile};
 ghost use Rattle.py_plain_text.specs.CookieView.{cookie_shown};
-ghost use Rattle.py_plain_text.specs.Landing.{only_item, is_restorable};
+ghost use Rattle.py_plain_text.specs.Landing.{fed_by, skipped_by, only_item, is_restorable};
 ghost use Rattle.py_telling.specs.Restoring.{feeds, skips_fewer, IsCount, FeedsOf};
 
 use crate::seen_item::{SeenItem, first_seen};
@@ -53,11 +54,14 @@ fn count_in_item(encoding: Encoding, handler: Handler, bytes: &[u8], last: bool)
 }
 
 /// Whether a cookie that skips characters fits the bytes that lie at its start, as many as it feeds, or fewer where the text ends
-/// before: they are one item, and what is skipped lies within its characters.
+/// before: they are one item, and what is skipped lies within its characters. They are the same item where nothing comes behind them.
 pub fn restores(encoding: Encoding, handler: Handler, cookie: &TextIOCookie, fed: &[u8]) -> bool
     requires { reads_texts handler ≡ true }
-    ensures { (file : TextFile) → FeedsOf encoding handler (cookie_shown cookie.now) fed.now file
+    ensures restorable { (file : TextFile) → FeedsOf encoding handler (cookie_shown cookie.now) fed.now file
         → is_restorable file (cookie_shown cookie.now) ≡ (file.can.readable && result) }
+    ensures feeds { result ≡ true → (1 ≤ length fed.now) × (length fed.now ≤ 4) × (length fed.now ≡ fed_by (cookie_shown cookie.now)) }
+    ensures inside { result ≡ true → (place : ℕ) → skipped_by (cookie_shown cookie.now)
+        < length (characters_of (walk_from encoding (treatment handler encoding) true Unknown place 0 fed.now).items) }
 {
     if !feeds(cookie, fed) {
         return false;

@@ -8,7 +8,7 @@ use Rattle.py_flat.specs.FlatFile.{Abilities, Buffering}
 use Rattle.py_flat.specs.Calls.{Refused}
 use Rattle.py_plain_text.specs.TextFile.{TextFile, TextPlace, TextSettings}
 use Rattle.py_plain_text.specs.TextOver.{TextOver}
-use Rattle.py_plain_text.specs.TextCalls.{TextFileCall, Read, ReadLine, WriteText, Tell, Reconfigure, SetChunkSize, Flush, Close, Detach, is_getter}
+use Rattle.py_plain_text.specs.TextCalls.{TextFileCall, Read, ReadLine, WriteText, SeekText, Tell, Reconfigure, SetChunkSize, Flush, Close, Detach, is_getter}
 use Rattle.py_plain_text.specs.TextRefusals.{refusal}
 use Rattle.py_plain_text.specs.TextAllowed.{SettledBy, TextFileStep}
 use Rattle.py_raw.specs.RawStream.{Raw}
@@ -16,13 +16,11 @@ use Rattle.py_raw.proofs.Telling.{keeps_same}
 use Rattle.py_stream.specs.Buffer.{Buffer}
 use Rattle.py_read_text.specs.TextState.{TextState, file_of}
 use Rattle.py_read_text.specs.Owing.{all_owed, IsJoined, Closes}
-use Rattle.py_read_text.specs.Answers.{Answers, settings_after, LifeMoves, PlaceMoves, ReadsOneLine, WriteMoves, closes_again, WantsMemory, ClosesWithRaw, TextPasses, TextKeeps, TextHolds, TextBlames, TextTells, MovesByOwn}
+use Rattle.py_read_text.specs.Answers.{refused_here, Answers, settings_after, LifeMoves, PlaceMoves, ReadsOneLine, WriteMoves, closes_again, WantsMemory, ClosesWithRaw, TextPasses, TextKeeps, TextHolds, TextBlames, TextTells, TextSeeks, MovesByOwn}
 use Rattle.py_read_text.proofs.Owing.{passes_none, moves_none, owes_none, open_still}
 use Rattle.py_read_text.proofs.Fronts.{lays_still}
+use Rattle.py_textio.proofs.Detached.{gone_refuses, refused_gone}
 use Rattle.py_text_session.specs.Handing.{gone_text}
-
-pub detached_refuses : (file : TextFile) (call : TextFileCall) → file.life ≡ life.Detached → is_getter call ≡ false → refusal file call ≡ Some fault.Detached
-detached_refuses file call is asks = rw asks (rw is refl)
 
 -- What such a refusal leaves, by the call.
 
@@ -44,6 +42,7 @@ place_stays (Read None) place = refl
 place_stays (Read (Some size)) place = refl
 place_stays (ReadLine limit) place = refl
 place_stays (WriteText text) place = tt
+place_stays (SeekText sought whence) place = tt
 place_stays call place = refl
 
 written_stays : (settings : TextSettings) (call : TextFileCall) (place : TextPlace) → WriteMoves settings call (Refused fault.Detached) place place
@@ -93,6 +92,10 @@ tells_none : (call : TextFileCall) (text : TextOver Buffer) → TextTells call (
 tells_none Tell text = tt
 tells_none call text = tt
 
+seeks_none : (call : TextFileCall) (text : TextOver Buffer) → TextSeeks call (Refused fault.Detached) text text.place
+seeks_none (SeekText sought whence) text = refl
+seeks_none call text = tt
+
 holds_none : (before : TextOver Buffer) (call : TextFileCall) (after : TextOver Buffer) → TextHolds before call (Refused fault.Detached) after
 holds_none before (WriteText text) after = tt
 holds_none before call after = tt
@@ -106,7 +109,7 @@ gone_step file call is = settled (subst (λ (refused : Option IoFault). SettledB
 pub gone_answers : (can : Abilities) (buffering : Buffering) (settings : TextSettings) (raw : Raw) (call : TextFileCall) → is_getter call ≡ false → Answers (gone_text can buffering settings raw) call (Refused fault.Detached) (gone_text can buffering settings raw)
 gone_answers can buffering settings raw call asks =
     let gone : TextState = gone_text can buffering settings raw in
-    let is : refusal (file_of gone) call ≡ Some fault.Detached = detached_refuses (file_of gone) call refl asks in
+    let is : refused_here (file_of gone) call ≡ Some fault.Detached = refused_gone (file_of gone) call refl asks in
     record {
       keeps = record { raw = keeps_same raw; can = refl; buffering = refl; exported = refl };
       refused = λ other here. record { says = (let same : Some fault.Detached ≡ Some other = sym is ∙ here in let whys : fault.Detached ≡ other = cc in ap Refused whys); same = refl };
@@ -119,6 +122,7 @@ gone_answers can buffering settings raw call asks =
       lines = lines_none call settings.newline;
       blames = blames_none call gone.text.place gone.text.buffer.place;
       tells = tells_none call gone.text;
+      seeks = seeks_none call gone.text;
       joined = gone_joined can buffering settings raw;
       owes = owes_none gone.text call gone.text (moves_none call gone.text.place.at) (passes_none raw (all_owed gone.text));
       lays = lays_still gone.text _;
@@ -134,7 +138,7 @@ gone_answers can buffering settings raw call asks =
       spares = λ reads none. record { bytes = λ told. refl; written = λ told. refl; owed = none };
       tied = record { owed = λ reads. refl; life_is = λ reads was had. was };
       stands = λ stood. stood;
-      told = λ told. gone_step (file_of gone) call is;
+      told = λ told. gone_step (file_of gone) call (gone_refuses (file_of gone) call refl asks);
       needs = λ gives told. inl (omega arith);
       hides = λ short. absurd (cc);
       passes = passes_nothing gone call gone;

@@ -10,15 +10,15 @@ use Rattle.py_flat.specs.FlatFile.{Abilities, Buffering, Buffered}
 use Rattle.py_flat.specs.Refusals.{is_unbuffered}
 use Rattle.py_plain_text.specs.TextFile.{TextFile, TextSettings}
 use Rattle.py_plain_text.specs.TextCalls.{TextFileCall, Read, ReadLine, WriteText, Tell, Reconfigure, SetChunkSize, Flush, Close, Detach, ChunkSize, Readable, Writable, Seekable, Closed, Encoding, Errors, OtherKind, is_detach, is_getter}
-use Rattle.py_plain_text.specs.TextRefusals.{refusal}
 use Rattle.py_stream.specs.Buffer.{Buffer, IsClosedWithRaw}
 use Rattle.py_read_text.specs.TextState.{TextState, file_of}
-use Rattle.py_read_text.specs.Answers.{Answers, LifeMoves, hands_back}
+use Rattle.py_read_text.specs.Answers.{refused_here, Answers, LifeMoves, hands_back}
 use Rattle.py_read_text.proofs.Living.{lives_on, hands_none}
 use Rattle.py_raw.specs.RawStream.{Raw}
 use Rattle.py_textio.specs.Handing.{detached_text, RefusesDetach}
+use Rattle.py_textio.proofs.Detached.{refused_gone}
 use Rattle.py_text_session.specs.Session.{OwesNothing, IsOpen, IsHeld, IsTextSession, KeepsBeside, buffer_seen, seen, IsSession}
-use Rattle.py_text_session.proofs.Gone.{gone_answers, detached_refuses}
+use Rattle.py_text_session.proofs.Gone.{gone_answers}
 
 -- the calls of a session
 abbrev pub is_made : TextFileCall → Bool
@@ -35,7 +35,7 @@ is_made call = false
 
 -- A session that isn't live answers no call.
 
-failed_refuses : (file : TextFile) (call : TextFileCall) → is_made call ≡ true → file.life ≡ life.Failed → refusal file call ≡ Some fault.Failed
+failed_refuses : (file : TextFile) (call : TextFileCall) → is_made call ≡ true → file.life ≡ life.Failed → refused_here file call ≡ Some fault.Failed
 failed_refuses file (Read size) made is = rw is refl
 failed_refuses file (ReadLine limit) made is = rw is refl
 failed_refuses file (WriteText text) made is = rw is refl
@@ -152,7 +152,7 @@ asks_none call made = refl
 -- a detached text refuses a call, and stays as it is
 gone_stays : (before : TextState) (call : TextFileCall) (reply : FileReply) (after : TextState) → is_getter call ≡ false → before ≡ detached_text before.text.buffer.can before.text.settings → Answers before call reply after → (reply ≡ Refused fault.Detached) × (after ≡ before)
 gone_stays before call reply after asks gone answers =
-    let left = answers.refused fault.Detached (detached_refuses (file_of before) call (ap (λ (state : TextState). state.text.life) gone) asks) in
+    let left = answers.refused fault.Detached (refused_gone (file_of before) call (ap (λ (state : TextState). state.text.life) gone) asks) in
     let whole : false ≡ before.short = sym (ap (λ (state : TextState). state.short) gone) in
     (left.says, left.same ∙ ap (λ (short : Bool). let state : TextState = record before { short = short } in state) whole)
 

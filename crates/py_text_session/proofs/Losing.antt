@@ -25,7 +25,7 @@ use Rattle.py_plain_text.specs.Landing.{Landed, Stands, CantRestore, lands}
 use Rattle.py_plain_text.specs.TextCalls.{TextFileCall, Read, ReadLine, WriteText, SeekText, Flush, Close, Detach, Closed}
 use Rattle.py_plain_text.specs.TextRefusals.{refusal}
 use Rattle.py_plain_text.specs.TextExact.{carried_out, sought_cookie, after_landing}
-use Rattle.py_plain_text.specs.TextAllowed.{DetachesIn, Accepted, SettledBy, WaitedBy, Starved, TextFileStep}
+use Rattle.py_plain_text.specs.TextAllowed.{DetachesIn, Accepted, SettledBy, WaitedBy, LeftStarved, Starved, TextFileStep}
 use Rattle.py_text_session.specs.Laws.{LosesNothing, moves_on}
 use Rattle.py_text_session.proofs.Blaming.{settled_not}
 
@@ -250,7 +250,7 @@ refusal_leaves_text before call why waited faulted after still other has (out_of
 
 -- Want of memory.
 
-starved_unwritten : (file : TextFile) (call : TextFileCall) (after : TextFile) → file.can.writable ≡ false → Starved file call after → after ≡ file
+starved_unwritten : (file : TextFile) (call : TextFileCall) (after : TextFile) → file.can.writable ≡ false → Starved file call after → LeftStarved file call after
 starved_unwritten file call after unwritten (inl kept) = kept.1
 starved_unwritten file call after unwritten (inr midway) = let never : true ≡ false = sym midway.1.0 ∙ unwritten in absurd (cc)
 
@@ -267,8 +267,8 @@ lacking_waiting file Close after part = let wrong : Refused fault.NoMemory ≡ R
 lacking_waiting file Detach after part = let wrong : Refused fault.NoMemory ≡ Refused (fault.WouldBlock 0) = part.0 in absurd (cc)
 lacking_waiting file call after part = part
 
--- want of memory leaves a text that can't write
-pub lacking_leaves_text : (before : TextFile) (call : TextFileCall) (waited faulted : Bool) (after : TextFile) → before.can.writable ≡ false → TextFileStep before call (Refused fault.NoMemory) waited faulted after → after ≡ before
+-- want of memory leaves a text that can't write, but for where a seek may leave it
+pub lacking_leaves_text : (before : TextFile) (call : TextFileCall) (waited faulted : Bool) (after : TextFile) → before.can.writable ≡ false → TextFileStep before call (Refused fault.NoMemory) waited faulted after → LeftStarved before call after
 lacking_leaves_text before call waited faulted after unwritten (settled is) = absurd (settled_not before call (Refused fault.NoMemory) (Refused fault.NoMemory) after refl is refl)
 lacking_leaves_text before call waited faulted after unwritten (waited_for rose part) = absurd (lacking_waiting before call after part.1)
 lacking_leaves_text before call waited faulted after unwritten (raw_faulted rose said left) = let wrong : Refused fault.NoMemory ≡ Refused fault.RawFault = said in absurd (cc)

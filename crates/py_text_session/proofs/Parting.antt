@@ -36,7 +36,7 @@ has_room stream taken text owed room own same fits has some =
     omega (arith, fits, has some, size)
 
 -- what is owed stands before the text
-owed_before : {taken : ℕ} → (buffer : Buffer) (own : List ℕ) (at : ℕ) → JoinsAt buffer own at taken → length buffer.owed.bytes ≤ at - length own
+owed_before : {from taken : ℕ} → (buffer : Buffer) (own : List ℕ) (at : ℕ) → JoinsAt buffer own from at taken → length buffer.owed.bytes ≤ at - length own
 owed_before buffer own at joined = by joined.stands joined.below
   where
     by : ((buffer.owed.bytes ≡ []) × (own ≡ [])) ⊎ (at ≡ buffer.place + length own) → OwesUpTo buffer.owed buffer.place → length buffer.owed.bytes ≤ at - length own

@@ -7,7 +7,7 @@ ghost use Rattle.py_flat.specs.declared.fault.IoFault.TheVariants as fault;
 ghost use Rattle.py_flat.specs.Calls.{FileReply, Text, NotReady, Refused};
 ghost use Rattle.py_plain_text.specs.TextFile.{TextFile};
 ghost use Rattle.py_plain_text.specs.TextCalls.{TextFileCall};
-ghost use Rattle.py_plain_text.specs.TextAllowed.{Settled, TextFileStep};
+ghost use Rattle.py_plain_text.specs.TextAllowed.{Settled, LeftStarved, TextFileStep};
 ghost use Rattle.py_text_session.specs.Laws.{LosesNothing, moves_on};
 
 /// A settled reply of a text blames neither the raw nor memory: it is not `NotReady`, `RawFault`, `NoMemory` or
@@ -22,10 +22,10 @@ pub fn settled_only_blames_itself()
 /// No character is lost by any answer of a text, whole or short: what was left before is the answer and then what is left
 /// after it, up to the same refused range. An answer that isn't ready leaves the text as it was; so does a refusal that is no
 /// fault of the raw and no want of memory, but for a write or a seek that had to wait or couldn't be restored; and want of memory
-/// does of a text that can't write.
+/// does of a text that can't write, but for a seek by a cookie that skips, which may leave it where that cookie's text begins.
 pub fn a_wait_loses_nothing()
     ensures answered { (before : TextFile) (call : TextFileCall) (answer : List ℕ) (waited faulted : Bool) (after : TextFile) → TextFileStep before call (Text answer) waited faulted after → LosesNothing before answer after }
     ensures not_ready { (before : TextFile) (call : TextFileCall) (waited faulted : Bool) (after : TextFile) → TextFileStep before call NotReady waited faulted after → after ≡ before }
     ensures refused { (before : TextFile) (call : TextFileCall) (why : IoFault) (waited faulted : Bool) (after : TextFile) → moves_on call ≡ false → why ≢ fault.RawFault → why ≢ fault.NoMemory → TextFileStep before call (Refused why) waited faulted after → after ≡ before }
-    ensures lacking { (before : TextFile) (call : TextFileCall) (waited faulted : Bool) (after : TextFile) → before.can.writable ≡ false → TextFileStep before call (Refused fault.NoMemory) waited faulted after → after ≡ before }
+    ensures lacking { (before : TextFile) (call : TextFileCall) (waited faulted : Bool) (after : TextFile) → before.can.writable ≡ false → TextFileStep before call (Refused fault.NoMemory) waited faulted after → LeftStarved before call after }
 {}

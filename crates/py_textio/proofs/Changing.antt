@@ -114,7 +114,7 @@ writes_on (Some handler) old new was = new
 
 stands_on : (old new : TextView) (pending : List ℕ) (settings : TextSettings) → IsSetTo settings old new → (pending ≡ []) ⊎ StandsToWrite old → (pending ≡ []) ⊎ StandsToWrite new
 stands_on old new pending settings sets (inl none) = inl none
-stands_on old new pending settings sets (inr stands) = inr (record { taken = sets.taken ∙ stands.0.taken; dirty = sets.dirty ∙ stands.0.dirty }, sets.at ∙ (stands.1 ∙ sym (ap (λ (buffer : Buffer). buffer.place) sets.buffer)))
+stands_on old new pending settings sets (inr stands) = inr (record { taken = sets.taken ∙ stands.0.taken; dirty = sets.dirty ∙ stands.0.dirty }, sets.at ∙ (stands.1 ∙ sym (ap (λ (buffer : Buffer). buffer.place) sets.buffer)), sets.front ∙ stands.2)
 
 pub set_written : (old new : TextView) (pending : List ℕ) (current : Life) (changes : Changes) → IsSetTo (changed old.settings changes) old new → (old.buffer.can.writable ≡ true → IfSome changes.handler (λ handler. writes_texts handler ≡ true)) → IsJoined (read_of new) → IsWritten old pending current → IsWritten new pending current
 set_written old new pending current changes sets writes joined is =
@@ -122,7 +122,7 @@ set_written old new pending current changes sets writes joined is =
     record {
       kept = ap (λ (buffer : Buffer). buffer.exported) sets.buffer ∙ is.kept;
       asks = subst (λ (settings : TextSettings). 0 < settings.chunk_size) (sym sets.settings) is.asks;
-      clean = λ dirty. sets.taken ∙ is.clean (sym sets.dirty ∙ dirty);
+      clean = λ dirty. let was = is.clean (sym sets.dirty ∙ dirty) in (sets.taken ∙ was.0, sets.front ∙ was.1);
       handler = λ able. ap (λ (settings : TextSettings). writes_texts settings.handler) sets.settings ∙ writes_on changes.handler old.settings.handler (writes (can able)) (is.handler (can able));
       lives = λ lives. ap (λ (buffer : Buffer). buffer.life) sets.buffer ∙ is.lives lives;
       stands = stands_on old new pending (changed old.settings changes) sets is.stands;
@@ -165,6 +165,7 @@ set_answers view changes live accepted joined = record {
   lines = tt;
   blames = tt;
   tells = tt;
+  seeks = tt;
   joined = joined;
   lays = lays_still (over_of view) _;
   unclosed = λ some closed. refl;
@@ -190,7 +191,7 @@ set_answers view changes live accepted joined = record {
 }
 
 over_set : (old new : WrittenView) (changes : Changes) → IsSetTo (changed old.text.settings changes) old.text new.text → new.pending ≡ old.pending → new.life ≡ old.life → over_of new ≡ with_changes (over_of old) changes
-over_set old new changes sets pending current = rw (sets.buffer, sets.at, sets.taken, sets.dirty, sets.settings, pending, current) refl
+over_set old new changes sets pending current = rw (sets.buffer, sets.front, sets.at, sets.taken, sets.dirty, sets.settings, pending, current) refl
 
 -- other settings
 pub set_so : (old new : WrittenView) (changes : Changes) → old.life ≡ life.Live → changes_refusal (file_now old) changes ≡ None → IsSetTo (changed old.text.settings changes) old.text new.text → new.pending ≡ old.pending → new.life ≡ old.life → IsJoined (over_of old) → Answers (state_of old false) (Reconfigure changes) Done (state_of new false)

@@ -5,13 +5,13 @@ use Rattle.py_flat.specs.declared.life.Life.TheVariants as life
 use Rattle.py_flat.specs.FlatFile.{Abilities}
 use Rattle.py_flat.specs.Calls.{Refused}
 use Rattle.py_plain_text.specs.TextFile.{TextFile, TextSettings}
-use Rattle.py_plain_text.specs.TextCalls.{TextFileCall, Close, is_getter}
+use Rattle.py_plain_text.specs.TextCalls.{TextFileCall, SeekText, Close, is_getter}
 use Rattle.py_plain_text.specs.TextRefusals.{refusal}
 use Rattle.py_stream.specs.Stream.{detached_stream}
 use Rattle.py_stream.specs.Buffer.{buffer_of}
 use Rattle.py_read_text.specs.Owing.{IsJoined}
 use Rattle.py_read_text.specs.Knowing.{from_place}
-use Rattle.py_read_text.specs.Answers.{closes_again, Answers}
+use Rattle.py_read_text.specs.Answers.{refused_here, closes_again, Answers}
 use Rattle.py_textio.specs.Written.{WrittenView, over_of, file_now}
 use Rattle.py_textio.specs.Handing.{detached_text}
 use Rattle.py_textio.proofs.Refusing.{refused}
@@ -19,7 +19,7 @@ use Rattle.py_textio.proofs.Refusing.{refused}
 -- a text that would be seen so
 abbrev gone : Abilities → TextSettings → WrittenView
 gone can settings = record {
-  text = record { buffer = buffer_of (detached_stream can None) 0; held = from_place settings 0; at = 0; taken = 0; dirty = false; settings = settings };
+  text = record { buffer = buffer_of (detached_stream can None) 0; held = from_place settings 0; front = None; at = 0; taken = 0; dirty = false; settings = settings };
   pending = [];
   room = 0;
   life = life.Detached;
@@ -28,8 +28,12 @@ gone can settings = record {
 gone_joined : (can : Abilities) (settings : TextSettings) → IsJoined (over_of (gone can settings))
 gone_joined can settings = record { below = inl refl; stands = inl (refl, refl); behind = omega arith; far = omega arith; few = omega arith }
 
-refused_gone : (file : TextFile) (call : TextFileCall) → file.life ≡ life.Detached → is_getter call ≡ false → refusal file call ≡ Some fault.Detached
-refused_gone file call is asks = rw asks (rw is refl)
+pub gone_refuses : (file : TextFile) (call : TextFileCall) → file.life ≡ life.Detached → is_getter call ≡ false → refusal file call ≡ Some fault.Detached
+gone_refuses file call is asks = rw asks (rw is refl)
+
+pub refused_gone : (file : TextFile) (call : TextFileCall) → file.life ≡ life.Detached → is_getter call ≡ false → refused_here file call ≡ Some fault.Detached
+refused_gone file (SeekText sought whence) is asks = gone_refuses (record file { bytes = [] }) (SeekText sought whence) is asks
+refused_gone file call is asks = gone_refuses file call is asks
 
 never_closes : (call : TextFileCall) → closes_again life.Detached call ≡ false
 never_closes Close = refl

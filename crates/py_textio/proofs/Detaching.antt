@@ -70,7 +70,8 @@ life_refused writes why before after moves = moves
 
 starves_refused : (before after : TextOver Buffer) (why : IoFault) → Starves before Flush (Refused why) after → Starves before Detach (Refused why) after
 starves_refused before after fault.NoMemory (inl stays) = inl stays
-starves_refused before after fault.NoMemory (inr failed) = inr (record { life_is = failed.life_is; takes = failed.takes; has = failed.has; gave = failed.gave })
+starves_refused before after fault.NoMemory (inr (inl failed)) = inr (inl (record { life_is = failed.life_is; takes = failed.takes; has = failed.has; gave = failed.gave }))
+starves_refused before after fault.NoMemory (inr (inr moved)) = let never : false ≡ true = moved.seeks in absurd (cc)
 starves_refused before after why starves = tt
 
 reply_refused : (writes : Bool) (why : IoFault) → IsReplyTo writes Flush (Refused why) → IsReplyTo writes Detach (Refused why)
@@ -103,6 +104,7 @@ refuses_so old new why other answers =
       lines = tt;
       blames = tt;
       tells = tt;
+      seeks = tt;
       joined = answers.joined;
       owes = record { taken = answers.owes.taken; whole = answers.owes.whole; place = tt; passes = answers.owes.passes };
       lays = answers.lays;
@@ -178,6 +180,7 @@ detached_done old new live answers =
       lines = tt;
       blames = tt;
       tells = tt;
+      seeks = tt;
       joined = answers.joined;
       owes = record { taken = answers.owes.taken; whole = answers.owes.whole; place = tt; passes = answers.owes.passes };
       lays = answers.lays;
@@ -219,7 +222,7 @@ accepts_failed : (file : TextFile) → file.life ≡ life.Failed → refusal fil
 accepts_failed file is = rw is refl
 
 -- what the text itself owes begins where the buffer stands
-begins_there : {taken : ℕ} → (buffer : Buffer) (owed : List ℕ) (at : ℕ) → JoinsAt buffer owed at taken → (owed ≡ []) ⊎ (at - length owed ≡ buffer.place)
+begins_there : {from taken : ℕ} → (buffer : Buffer) (owed : List ℕ) (at : ℕ) → JoinsAt buffer owed from at taken → (owed ≡ []) ⊎ (at - length owed ≡ buffer.place)
 begins_there buffer owed at joined = by joined.stands
   where
     by : ((buffer.owed.bytes ≡ []) × (owed ≡ [])) ⊎ (at ≡ buffer.place + length owed) → (owed ≡ []) ⊎ (at - length owed ≡ buffer.place)
@@ -247,6 +250,7 @@ hands_failed old failed joined =
       lines = tt;
       blames = tt;
       tells = tt;
+      seeks = tt;
       joined = joined;
       owes = owes_none old.text Detach (handed_over old old.text.buffer old.text.owed).text tt (passes_none old.text.buffer.raw (all_owed old.text));
       lays = lays_still old.text _;

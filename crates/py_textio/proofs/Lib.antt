@@ -1,3 +1,4 @@
+pub mod Faults
 mod Refusing
 mod Changing
 mod Telling
@@ -12,4 +13,4 @@ pub mod Smooth
 mod Ended
 mod Rooms
 mod Detaching
-mod Detached
+pub mod Detached

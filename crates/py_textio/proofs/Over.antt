@@ -1,16 +1,17 @@
 -- A call behind what handed on, as a call of the text before.
-use Rattle.std.proofs.Common.{◌≡◌, ◌≢◌, ℕ, ◌+◌, ◌≤◌, inl, inr, ◌⊎◌, Bool, true, false, List, [], ◌∷◌, ◌++◌, length, None, Ok, refl, sym, ap, ◌∙◌, subst, arith}
+use Rattle.std.proofs.Common.{◌≡◌, ◌≢◌, ℕ, zero, suc, ℤ, pos, ◌+◌, ◌≤◌, inl, inr, ◌⊎◌, Bool, true, false, List, [], ◌∷◌, ◌++◌, length, None, Ok, refl, sym, ap, ◌∙◌, subst, arith}
 use Rattle.std.proofs.lemmas.List.{length-append, length-drop}
 use Rattle.py_flat.specs.declared.life.Life.{Life}
 use Rattle.py_flat.specs.declared.life.Life.TheVariants as life
 use Rattle.py_flat.specs.FlatFile.{Abilities}
 use Rattle.py_flat.specs.declared.fault.IoFault.TheVariants as fault
-use Rattle.py_flat.specs.Calls.{FileReply, Done, Refused}
+use Rattle.py_flat.specs.Calls.{FileReply, Cookie as Told, Done, Refused}
 use Rattle.py_flat.specs.Causes.{Rose, rose}
 use Rattle.py_plain_text.specs.TextFile.{TextFile, TextPlace, TextSettings}
 use Rattle.py_plain_text.specs.TextOver.{TextOver}
-use Rattle.py_plain_text.specs.TextCalls.{TextFileCall, Flush, Close, Detach}
-use Rattle.py_plain_text.specs.TextRefusals.{refusal}
+use Rattle.py_plain_text.specs.Cookie.{Cookie, cookie_bytes}
+use Rattle.py_plain_text.specs.Landing.{start_of, fed_by}
+use Rattle.py_plain_text.specs.TextCalls.{TextFileCall, SeekText, Flush, Close, Detach}
 use Rattle.py_plain_text.specs.TextAllowed.{TextFileStep}
 use Rattle.py_raw.specs.RawStream.{Keeps}
 use Rattle.py_raw.proofs.Telling.{tells_still}
@@ -19,12 +20,12 @@ use Rattle.py_stream.specs.Buffer.{Buffer, WhereShown, KeepsBuffer}
 use Rattle.py_held_text.specs.declared.wanted.Wanted.{Wanted}
 use Rattle.py_held_text.specs.declared.wanted.Wanted.TheVariants.{Characters, Line}
 use Rattle.py_read_text.specs.Reading.{call_of, asks_none}
-use Rattle.py_read_text.proofs.Steps.{accepts}
+use Rattle.py_read_text.proofs.Steps.{accepts_here}
 use Rattle.py_read_text.specs.TextState.{TextState}
-use Rattle.py_read_text.specs.Owing.{all_owed, behind_own, PassesOwed, given_by, WriteMovesBy, OwesOn, own_from, flushes_behind, GaveOwn, Starves, KeepsOpen, Closes, IsJoined, LaysOwed}
+use Rattle.py_read_text.specs.Owing.{all_owed, behind_own, begins_at, PassesOwed, given_by, WriteMovesBy, OwesOn, own_from, flushes_behind, GaveOwn, Starves, KeepsOpen, Closes, IsJoined, LaysOwed}
 use Rattle.py_read_text.proofs.Owing.{has_own, passes_then, passes_behind, open_then, owing_then}
 use Rattle.py_read_text.specs.Ahead.{AsksAsNeeded, starts_at, ReadsNoFurther}
-use Rattle.py_read_text.specs.Answers.{calls_nothing, passes_on, gives_text, LifeMoves, PlaceMoves, ReadsOneLine, WriteMoves, settings_after, IsReplyTo, WantsMemory, closes_again, TextPasses, MovesByOwn, TextHolds, TextBlames, Answers}
+use Rattle.py_read_text.specs.Answers.{refused_here, calls_nothing, passes_on, gives_text, LifeMoves, PlaceMoves, ReadsOneLine, WriteMoves, settings_after, IsReplyTo, WantsMemory, closes_again, TextPasses, MovesByOwn, TextHolds, TextBlames, TellsWithin, SeeksBy, PutAtStart, TextSeeks, Answers}
 use Rattle.py_read_text.specs.Knowing.{place_of}
 use Rattle.py_textio.specs.Written.{WrittenView, behind_owed, place_now, over_of, state_of, file_now, CallsBuffer, HandsOnBut, HandsOn, SettleOutcome}
 use Rattle.py_textio.specs.Working.{Works}
@@ -130,8 +131,42 @@ gave_behind old mid flushes new hands none gave = by_gave gave
 
 starves_behind : (old mid : WrittenView) (call : TextFileCall) (reply : FileReply) (new : TextOver Buffer) → HandsOn old false false mid → old.pending ≢ [] → mid.pending ≡ [] → mid.life ≡ old.life → Starves (over_of mid) call reply new → Starves (over_of old) call reply new
 starves_behind old mid call (Refused fault.NoMemory) new hands owes none current (inl stays) = inl (record { life_is = stays.life_is ∙ current; settings = stays.settings ∙ hands.settings; place = stays.place ∙ hands.place })
-starves_behind old mid call (Refused fault.NoMemory) new hands owes none current (inr failed) = inr (record { life_is = failed.life_is; takes = sym hands.calls.keeps.raw.takes_memory ∙ failed.takes; has = has_own (over_of old) call owes; gave = subst (λ (settings : TextSettings). GaveOwn (flushes_behind settings call) (over_of old) new) hands.settings (gave_behind old mid (flushes_behind mid.text.settings call) new hands none failed.gave) })
+starves_behind old mid call (Refused fault.NoMemory) new hands owes none current (inr (inl failed)) = inr (inl (record { life_is = failed.life_is; takes = sym hands.calls.keeps.raw.takes_memory ∙ failed.takes; has = has_own (over_of old) call owes; gave = subst (λ (settings : TextSettings). GaveOwn (flushes_behind settings call) (over_of old) new) hands.settings (gave_behind old mid (flushes_behind mid.text.settings call) new hands none failed.gave) }))
+starves_behind old mid call (Refused fault.NoMemory) new hands owes none current (inr (inr moved)) = inr (inr (record { seeks = moved.seeks; takes = sym hands.calls.keeps.raw.takes_memory ∙ moved.takes; life_is = moved.life_is ∙ current; settings = moved.settings ∙ hands.settings }))
 starves_behind old mid call reply new hands owes none current starves = tt
+
+-- Where a seek leaves a text, behind a call that left its place and the place behind what it itself owed.
+
+tells_on : (old mid : TextOver Buffer) (bytes : List ℕ) → mid.place ≡ old.place → behind_own mid ≡ behind_own old → TellsWithin bytes mid → TellsWithin bytes old
+tells_on old mid bytes place behind tells = record {
+  told = tells.told;
+  bytes_are = tells.bytes_are;
+  builds = tells.builds;
+  forth = subst (λ (own : TextPlace). begins_at own ≤ start_of tells.told) place tells.forth;
+  within = subst (λ (far : ℕ). start_of tells.told + fed_by tells.told ≤ far) behind tells.within;
+}
+
+sought_on : (old mid : TextOver Buffer) (sought : List ℕ) (whence : ℤ) (goal : Cookie) → mid.place ≡ old.place → behind_own mid ≡ behind_own old → SeeksBy mid sought whence goal → SeeksBy old sought whence goal
+sought_on old mid sought (pos (suc zero)) goal place behind by = tells_on old mid (cookie_bytes goal) place behind by
+sought_on old mid sought (pos (suc (suc zero))) goal place behind by = by
+sought_on old mid sought whence goal place behind by = by
+
+put_on : (old mid : TextOver Buffer) (sought : List ℕ) (whence : ℤ) (after : TextPlace) → mid.place ≡ old.place → behind_own mid ≡ behind_own old → PutAtStart mid sought whence after → PutAtStart old sought whence after
+put_on old mid sought whence after place behind put = record { goal = put.goal; by = sought_on old mid sought whence put.goal place behind put.by; skips = put.skips; place = put.place }
+
+left_on : (old mid : TextOver Buffer) (sought : List ℕ) (whence : ℤ) (after : TextPlace) → mid.place ≡ old.place → behind_own mid ≡ behind_own old → (after ≡ mid.place) ⊎ PutAtStart mid sought whence after → (after ≡ old.place) ⊎ PutAtStart old sought whence after
+left_on old mid sought whence after place behind (inl still) = inl (still ∙ place)
+left_on old mid sought whence after place behind (inr put) = inr (put_on old mid sought whence after place behind put)
+
+seeks_on : (old mid : TextOver Buffer) (call : TextFileCall) (reply : FileReply) (after : TextPlace) → mid.place ≡ old.place → behind_own mid ≡ behind_own old → mid.buffer.raw.takes_memory ≡ old.buffer.raw.takes_memory → TextSeeks call reply mid after → TextSeeks call reply old after
+seeks_on old mid (SeekText sought whence) (Told bytes) after place behind takes put = record { goal = put.goal; by = sought_on old mid sought whence put.goal place behind put.by; says = put.says; place = put.place }
+seeks_on old mid (SeekText sought whence) (Refused fault.CannotRestore) after place behind takes put = put_on old mid sought whence after place behind put
+seeks_on old mid (SeekText sought whence) (Refused (fault.WouldBlock taken)) after place behind takes left = left_on old mid sought whence after place behind left
+seeks_on old mid (SeekText sought whence) (Refused fault.RawFault) after place behind takes left = left_on old mid sought whence after place behind left
+seeks_on old mid (SeekText sought whence) (Refused fault.NoMemory) after place behind takes (inl still) = inl (still ∙ place)
+seeks_on old mid (SeekText sought whence) (Refused fault.NoMemory) after place behind takes (inr put) = inr (sym takes ∙ put.0, put_on old mid sought whence after place behind put.1)
+seeks_on old mid (SeekText sought whence) reply after place behind takes still = still ∙ place
+seeks_on old mid call reply after place behind takes none = tt
 
 -- a text doesn't stand before where what it owes its buffer begins
 pub reaches_place : (place : TextPlace) (owed : List ℕ) → place.at ≤ (behind_owed place owed).at
@@ -146,11 +181,12 @@ needs_over old mid new call short hands current stood there needs told =
     (subst (λ (settings : TextSettings). AsksAsNeeded (file_now mid) call settings.chunk_size (starts_at (state_of old false)) new.text.buffer.place) hands.settings
     (subst (λ (at : ℕ). AsksAsNeeded (file_now mid) call mid.text.settings.chunk_size at new.text.buffer.place) start (needs (tells_still old.text.buffer.raw mid.text.buffer.raw hands.calls.keeps.raw ∙ told))))
 
-pub answers_over : (old mid : WrittenView) (call : TextFileCall) (reply : FileReply) (new : WrittenView) (short : Bool) → IsJoined (over_of old) → IsJoined (over_of mid) → old.text.buffer.can.writable ≡ true → old.life ≡ life.Live → mid.life ≡ life.Live → old.text.at ≡ old.text.buffer.place → mid.text.at ≡ mid.text.buffer.place → HandsOn old false false mid → mid.pending ≡ [] → passes_on old.pending call ≡ true → old.pending ≢ [] → calls_nothing call ≡ false → closes_again life.Live call ≡ false → refusal (file_now old) call ≡ None → (refusal (file_now mid) call ≡ None) → WriteMoves old.text.settings call reply (place_now old) (place_now new) → TextPasses (state_of old false) call reply (state_of new short) → WantsMemory call reply old.text.buffer → Closes old.life call old.text.buffer reply new.text.buffer → (gives_text call ≡ true → ReadsNoFurther (state_of old false) call (state_of new short)) → TextHolds (over_of old) call reply (over_of new) → Answers (state_of mid false) call reply (state_of new short) → Works old call reply new short
+pub answers_over : (old mid : WrittenView) (call : TextFileCall) (reply : FileReply) (new : WrittenView) (short : Bool) → IsJoined (over_of old) → IsJoined (over_of mid) → old.text.buffer.can.writable ≡ true → old.life ≡ life.Live → mid.life ≡ life.Live → old.text.at ≡ old.text.buffer.place → mid.text.at ≡ mid.text.buffer.place → HandsOn old false false mid → mid.pending ≡ [] → passes_on old.pending call ≡ true → old.pending ≢ [] → calls_nothing call ≡ false → closes_again life.Live call ≡ false → refused_here (file_now old) call ≡ None → refused_here (file_now mid) call ≡ None → WriteMoves old.text.settings call reply (place_now old) (place_now new) → TextPasses (state_of old false) call reply (state_of new short) → WantsMemory call reply old.text.buffer → Closes old.life call old.text.buffer reply new.text.buffer → (gives_text call ≡ true → ReadsNoFurther (state_of old false) call (state_of new short)) → TextHolds (over_of old) call reply (over_of new) → Answers (state_of mid false) call reply (state_of new short) → Works old call reply new short
 answers_over old mid call reply new short was is writes live lives stood there hands none busy owes some once accepted still written passes wants closes needs holds answers =
     let can : mid.text.buffer.can ≡ old.text.buffer.can = hands.calls.keeps.can in
     let current : mid.life ≡ old.life = lives ∙ sym live in
     let mid_writes : mid.text.buffer.can.writable ≡ true = same_writes old mid can ∙ writes in
+    let behind : behind_own (over_of mid) ≡ behind_own (over_of old) = behind_still old mid stood there hands.place in
     record {
       accepted = accepted;
       once = ap (λ (own : Life). closes_again own call) live ∙ once;
@@ -171,6 +207,7 @@ answers_over old mid call reply new short was is writes live lives stood there h
       written = written;
       lines = subst (λ (own : TextSettings). ReadsOneLine own.newline call reply) hands.settings answers.lines;
       blames = subst (λ (own : TextPlace). TextBlames call reply own new.text.buffer.place) hands.place answers.blames;
+      seeks = seeks_on (over_of old) (over_of mid) call reply (place_now new) hands.place behind hands.calls.keeps.raw.takes_memory answers.seeks;
       joined = answers.joined;
       owes = owes_behind (over_of old) (over_of mid) (over_of new) call hands.calls.keeps.raw hands.owes hands.settings hands.place answers.owes;
       lays = subst (λ (own : TextSettings). LaysOwed (over_of old) (all_owed (over_of old) ++ given_by own call) (over_of new)) hands.settings
@@ -190,7 +227,7 @@ answers_over old mid call reply new short was is writes live lives stood there h
       needs = needs;
       hides = λ is gives none. let hidden = answers.hides is gives none in record { empty = hidden.empty; shows = λ told. hidden.shows (tells_still old.text.buffer.raw mid.text.buffer.raw hands.calls.keeps.raw ∙ told) };
       passes = passes;
-      by_own = moves_on call (over_of old) (over_of mid) (over_of new) (behind_still old mid stood there hands.place) answers.by_own;
+      by_own = moves_on call (over_of old) (over_of mid) (over_of new) behind answers.by_own;
       kept = answers.kept;
       holds = holds;
     }
@@ -233,7 +270,7 @@ pub read_over : (old mid new : WrittenView) (asked : Wanted) (reply : FileReply)
 read_over old mid new asked reply short was is writes live stood there owes can some outcome answers =
     let hands = outcome.0 in
     let still : mid.text.buffer.can.readable ≡ true = ap (λ (own : Abilities). own.readable) hands.calls.keeps.can ∙ can in
-    answers_work old (call_of asked) reply new short (answers_over old mid (call_of asked) reply new short was is writes live outcome.2 stood there hands outcome.1 (busy_read old.pending asked owes) owes (some_read asked some) (once_read asked) (accepts (file_now old) asked live can) (accepts (file_now mid) asked outcome.2 still) (unwritten_read asked old.text.settings reply (place_now old) (place_now new)) (unpassed_read asked (state_of old false) reply (state_of new short)) (unwanted_read asked reply old.text.buffer) (unclosed_read asked old.life old.text.buffer reply new.text.buffer) (λ gives. needs_over old mid new (call_of asked) short hands (outcome.2 ∙ sym live) stood there (answers.needs gives)) (unheld_read asked (over_of old) reply (over_of new)) answers)
+    answers_work old (call_of asked) reply new short (answers_over old mid (call_of asked) reply new short was is writes live outcome.2 stood there hands outcome.1 (busy_read old.pending asked owes) owes (some_read asked some) (once_read asked) (accepts_here (file_now old) asked live can) (accepts_here (file_now mid) asked outcome.2 still) (unwritten_read asked old.text.settings reply (place_now old) (place_now new)) (unpassed_read asked (state_of old false) reply (state_of new short)) (unwanted_read asked reply old.text.buffer) (unclosed_read asked old.life old.text.buffer reply new.text.buffer) (λ gives. needs_over old mid new (call_of asked) short hands (outcome.2 ∙ sym live) stood there (answers.needs gives)) (unheld_read asked (over_of old) reply (over_of new)) answers)
 
 busy_other : (owed : List ℕ) (call : TextFileCall) → owed ≢ [] → passes_on owed call ≡ true
 busy_other [] call some = absurd (some refl)

@@ -1,18 +1,18 @@
 -- A call of a text that is refused leaves all as it was.
-use Rattle.std.proofs.Common.{◌≡◌, ◌≢◌, zero, suc, true, nat_eq, ℕ, inl, Bool, false, List, Option, Some, None, Result, Ok, Err, refl, sym, ap, ◌∙◌, subst, arith}
+use Rattle.std.proofs.Common.{◌≡◌, ◌≢◌, zero, suc, true, nat_eq, pos, ℕ, inl, Bool, false, List, Option, Some, None, Result, Ok, Err, refl, sym, ap, ◌∙◌, subst, arith}
 use Rattle.std.proofs.lemmas.Bool.Decides.{nat_tests}
 use Rattle.py_flat.specs.declared.fault.IoFault.{IoFault}
 use Rattle.py_flat.specs.declared.fault.IoFault.TheVariants as fault
 use Rattle.py_flat.specs.declared.life.Life.{Life}
 use Rattle.py_flat.specs.declared.life.Life.TheVariants as life
 use Rattle.py_flat.specs.Calls.{FileReply, Done, Refused}
-use Rattle.py_flat.specs.Refusals.{life_fault}
+use Rattle.py_flat.specs.Refusals.{or_else, refused_if, life_fault}
 use Rattle.py_flat.specs.AllowedStep.{settled}
 use Rattle.py_flat.proofs.Settling.{blames}
 use Rattle.py_plain_text.specs.TextFile.{TextFile, TextPlace, TextSettings}
 use Rattle.py_plain_text.specs.TextOver.{TextOver}
-use Rattle.py_plain_text.specs.TextCalls.{TextFileCall, Read, ReadLine, WriteText, Tell, Reconfigure, SetChunkSize, Flush, Close, Detach, OtherKind}
-use Rattle.py_plain_text.specs.TextRefusals.{refusal}
+use Rattle.py_plain_text.specs.TextCalls.{TextFileCall, Read, ReadLine, WriteText, SeekText, Tell, Reconfigure, SetChunkSize, Flush, Close, Detach, OtherKind}
+use Rattle.py_plain_text.specs.TextRefusals.{life_refusal, lacks, cookie_refusal, end_refusal, refusal}
 use Rattle.py_plain_text.specs.TextExact.{with_chunk_size}
 use Rattle.py_plain_text.specs.TextAllowed.{SettledBy, TextFileStep}
 use Rattle.py_raw.proofs.Telling.{keeps_same}
@@ -23,11 +23,12 @@ use Rattle.py_held_text.specs.declared.wanted.Wanted.{Wanted}
 use Rattle.py_held_text.specs.declared.wanted.Wanted.TheVariants.{Characters, Line}
 use Rattle.py_read_text.specs.TextState.{TextState}
 use Rattle.py_read_text.specs.Owing.{all_owed, IsJoined, Starves, Closes}
-use Rattle.py_read_text.specs.Answers.{IsShort, PlaceMoves, ReadsOneLine, WriteMoves, LifeMoves, settings_after, closes_again, WantsMemory, ClosesWithRaw, TextPasses, TextKeeps, TextHolds, TextBlames, TextTells, Answers}
+use Rattle.py_read_text.specs.Answers.{refused_here, IsShort, PlaceMoves, ReadsOneLine, WriteMoves, LifeMoves, settings_after, closes_again, WantsMemory, ClosesWithRaw, TextPasses, TextKeeps, TextHolds, TextBlames, TextTells, TextSeeks, Answers}
 use Rattle.py_read_text.specs.Reading.{call_of}
 use Rattle.py_read_text.proofs.Owing.{passes_none, moves_none, owes_none, open_still}
-use Rattle.py_read_text.proofs.Steps.{accepts}
+use Rattle.py_read_text.proofs.Steps.{accepts, refused_so}
 use Rattle.py_textio.specs.Written.{WrittenView, place_now, over_of, state_of, file_now}
+use Rattle.py_textio.proofs.Faults.{IsOwn, own_refusal}
 use Rattle.py_textio.proofs.Over.{stays_put}
 use Rattle.py_read_text.proofs.Fronts.{lays_still}
 
@@ -72,6 +73,7 @@ place_refused (Read None) why place far = refl
 place_refused (Read (Some size)) why place far = refl
 place_refused (ReadLine limit) why place far = refl
 place_refused (WriteText text) why place far = tt
+place_refused (SeekText sought whence) why place far = tt
 place_refused call why place far = refl
 
 wants_refused : (call : TextFileCall) (why : IoFault) (buffer : Buffer) → blames why ≡ false → WantsMemory call (Refused why) buffer
@@ -130,6 +132,27 @@ refuses_no_range file asked life.Failed readable why is can here = same_range fa
 refuses_no_range file asked life.Closed readable why is can here = same_range fault.Closed why (sym (by_life file asked life.Closed fault.Closed is refl) ∙ here) refl
 refuses_no_range file asked life.Detached readable why is can here = same_range fault.Detached why (sym (by_life file asked life.Detached fault.Detached is refl) ∙ here) refl
 
+seeks_refused : (text : TextOver Buffer) (file : TextFile) (call : TextFileCall) (why : IoFault) → refusal file call ≡ Some why → TextSeeks call (Refused why) text text.place
+seeks_refused text file (SeekText sought whence) fault.CannotRestore is = let never : true ≡ false = subst IsOwn is (own_refusal file (SeekText sought whence)) in absurd (cc)
+seeks_refused text file (SeekText sought whence) (fault.WouldBlock taken) is = inl refl
+seeks_refused text file (SeekText sought whence) fault.RawFault is = inl refl
+seeks_refused text file (SeekText sought whence) fault.NoMemory is = inl refl
+seeks_refused text file (SeekText sought whence) why is = refl
+seeks_refused text file call why is = tt
+
+-- what refuses, where nothing or something more is looked at last
+refuses_before : (first last more : Option IoFault) (why : IoFault) → (last ≡ Some why → more ≡ Some why) → or_else first last ≡ Some why → or_else first more ≡ Some why
+refuses_before (Some other) last more why goes is = is
+refuses_before None last more why goes is = goes is
+
+-- what is refused before the buffer is asked for anything is refused
+refused_too : (file : TextFile) (call : TextFileCall) (why : IoFault) → refused_here file call ≡ Some why → refusal file call ≡ Some why
+refused_too file (SeekText sought (pos (suc (suc zero)))) why is =
+    let call : TextFileCall = SeekText sought (pos 2) in
+    refuses_before (life_refusal file.life call) _ _ why (refuses_before (refused_if (lacks file call) fault.Unsupported) _ _ why (refuses_before (cookie_refusal file sought) None (end_refusal file (pos 2)) why (λ never. absurd (cc)))) is
+refused_too file (SeekText sought whence) why is = is
+refused_too file call why is = is
+
 lines_refused : (call : TextFileCall) (why : IoFault) (newline : _) → ReadsOneLine newline call (Refused why)
 lines_refused (ReadLine limit) why newline = tt
 lines_refused call why newline = tt
@@ -150,12 +173,13 @@ holds_refused before (WriteText text) why after = tt
 holds_refused before call why after = tt
 
 -- a call that is refused
-pub refused : (text : WrittenView) (was : Bool) (call : TextFileCall) (why : IoFault) → refusal (file_now text) call ≡ Some why → blames why ≡ false → closes_again text.life call ≡ false → IsJoined (over_of text) → Answers (state_of text was) call (Refused why) (state_of text false)
-refused text was call why is own once joined =
+pub refused : (text : WrittenView) (was : Bool) (call : TextFileCall) (why : IoFault) → refused_here (file_now text) call ≡ Some why → blames why ≡ false → closes_again text.life call ≡ false → IsJoined (over_of text) → Answers (state_of text was) call (Refused why) (state_of text false)
+refused text was call why here own once joined =
     let quiet = quiet_refused why own in
+    let is = refused_too (file_now text) call why here in
     record {
       keeps = record { raw = keeps_same text.text.buffer.raw; can = refl; buffering = refl; exported = refl };
-      refused = λ other here. record { says = (let same : Some why ≡ Some other = sym is ∙ here in let whys : why ≡ other = cc in ap Refused whys); same = refl };
+      refused = λ other also. record { says = (let same : Some why ≡ Some other = sym here ∙ also in let whys : why ≡ other = cc in ap Refused whys); same = refl };
       again = λ closes. let never = sym once ∙ closes in absurd (cc);
       causes = record { waits = λ short. absurd (cc); faults = λ fails. let never = sym quiet ∙ fails in absurd (cc) };
       counted = λ exact. record { faults = λ sound. refl; ends = λ own. record { waits = λ whole has. refl; once = λ short. absurd (cc); most = inl refl } };
@@ -165,6 +189,7 @@ refused text was call why is own once joined =
       lines = lines_refused call why text.text.settings.newline;
       blames = blames_refused (file_now text) call why (place_now text) text.text.buffer.place is;
       tells = tells_refused call why (over_of text);
+      seeks = seeks_refused (over_of text) (file_now text) call why is;
       joined = joined;
       owes = owes_none (over_of text) call (over_of text) (moves_none call (place_now text).at) (passes_none text.text.buffer.raw (all_owed (over_of text)));
       lays = lays_still (over_of text) _;
@@ -173,8 +198,8 @@ refused text was call why is own once joined =
       stays = λ is. open_still text.text.buffer;
       unclosed = λ some closed. refl;
       stops = λ short. absurd (cc);
-      answer = λ accepts. let never = sym is ∙ accepts in absurd (cc);
-      complete = λ accepts calm sound. let never = sym is ∙ accepts in absurd (cc);
+      answer = λ accepts. let never = sym here ∙ accepts in absurd (cc);
+      complete = λ accepts calm sound. let never = sym here ∙ accepts in absurd (cc);
       wants = wants_refused call why text.text.buffer own;
       shut = λ none. shut_refused call why text.text.buffer;
       spares = λ can none. record { bytes = λ told. refl; written = λ told. refl; owed = none };
@@ -205,13 +230,13 @@ own_life life.Detached why is = let same : fault.Detached ≡ why = cc in ap bla
 pub refused_by_life : (now : TextState) (text : WrittenView) (was : Bool) (asked : Wanted) (current : Life) (why : IoFault) → state_of text was ≡ now → text.life ≡ current → life_fault current ≡ Some why → IsJoined (over_of text) → Answers now (call_of asked) (Refused why) (state_of text false)
 refused_by_life now text was asked current why same is refuses joined =
     subst (λ (before : TextState). Answers before (call_of asked) (Refused why) (state_of text false)) same
-    (refused text was (call_of asked) why (by_life (file_now text) asked current why is refuses) (own_life current why refuses) (never_again asked text.life) joined)
+    (refused text was (call_of asked) why (refused_so (file_now text) asked ∙ by_life (file_now text) asked current why is refuses) (own_life current why refuses) (never_again asked text.life) joined)
 
 -- a reading of a buffer that can't be read
 pub refused_unread : (now : TextState) (text : WrittenView) (was : Bool) (asked : Wanted) → state_of text was ≡ now → text.life ≡ life.Live → text.text.buffer.can.readable ≡ false → IsJoined (over_of text) → Answers now (call_of asked) (Refused fault.Unsupported) (state_of text false)
 refused_unread now text was asked same live can joined =
     subst (λ (before : TextState). Answers before (call_of asked) (Refused fault.Unsupported) (state_of text false)) same
-    (refused text was (call_of asked) fault.Unsupported (unread (file_now text) asked live can) refl (never_again asked text.life) joined)
+    (refused text was (call_of asked) fault.Unsupported (refused_so (file_now text) asked ∙ unread (file_now text) asked live can) refl (never_again asked text.life) joined)
 
 -- what refuses a call that texts don't have
 abbrev pub other_fault : Life → IoFault
@@ -282,6 +307,7 @@ closed_again now text was same is joined =
       lines = tt;
       blames = tt;
       tells = tt;
+      seeks = tt;
       joined = joined;
       owes = owes_none (over_of text) Close (over_of text) tt (passes_none text.text.buffer.raw (all_owed (over_of text)));
       lays = lays_still (over_of text) _;
@@ -359,6 +385,7 @@ chunks_so now text new was size same live some joined is =
       lines = tt;
       blames = tt;
       tells = tt;
+      seeks = tt;
       joined = joined;
       owes = owes_none (over_of text) (SetChunkSize size) (over_of (with_chunk text size)) tt (passes_none text.text.buffer.raw (all_owed (over_of text)));
       lays = lays_still (over_of text) _;
@@ -437,6 +464,7 @@ over_short now text was call reply after same passes answers = subst (λ (before
   lines = answers.lines;
   blames = answers.blames;
   tells = answers.tells;
+  seeks = answers.seeks;
   joined = answers.joined;
   owes = answers.owes;
   lays = answers.lays;

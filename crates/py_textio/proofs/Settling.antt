@@ -46,7 +46,7 @@ behind_so place [] =
 behind_so place (byte ∷ more) = refl
 
 pub clean_place : (text : TextView) (owed : List ℕ) → StandsToWrite text → behind_owed (place_of text) owed ≡ clean_at (text.buffer.place + length owed) Unknown
-clean_place text owed stands = behind_so (place_of text) owed ∙ rw (stands.0.taken, stands.0.dirty, stands.1) refl
+clean_place text owed stands = behind_so (place_of text) owed ∙ rw (stands.2, stands.0.taken, stands.0.dirty, stands.1) refl
 
 own_at : (place : TextPlace) (owed : List ℕ) → (behind_owed place owed).at - length owed ≡ place.at
 own_at place [] = omega arith
@@ -101,7 +101,7 @@ hands_so old new reply ends answers takes was stands left live after =
     record {
       calls = calls_so old.text.buffer new.text.buffer old.pending reply answers;
       bytes = λ told. ap (λ (owed : List ℕ). lay (flat_of new.text.buffer).bytes new.text.buffer.place owed) left ∙ bytes_so old.text.buffer new.text.buffer old.pending reply answers takes told;
-      place = clean_place new.text new.pending (stands.clean, stands.at) ∙ (ap (λ (at : ℕ). clean_at at Unknown) size ∙ sym (clean_place old.text old.pending was));
+      place = clean_place new.text new.pending (stands.clean, stands.at, stands.front ∙ was.2) ∙ (ap (λ (at : ℕ). clean_at at Unknown) size ∙ sym (clean_place old.text old.pending was));
       settings = stands.settings;
       owes = subst (λ (own : List ℕ). PassesOwed old.text.buffer.raw (old.text.buffer.owed.bytes ++ old.pending) new.text.buffer.raw (new.text.buffer.owed.bytes ++ own)) (sym left) (takes_passed old.text.buffer new.text.buffer old.pending new.text.buffer.taken takes taken);
       lays = handed_lays old new was ends answers.lays;
@@ -196,7 +196,7 @@ settled_so old new (Err fault.NoMemory) ends live answers takes was stands left 
         let none : new.text.buffer.taken ≡ 0 = omega (arith, place, answers.taken) in
         inl (record {
           lives = current ∙ lives_on;
-          stands = (stands.clean, stands.at);
+          stands = (stands.clean, stands.at, stands.front ∙ was.2);
           pending = left ∙ ap (λ (count : ℕ). drop count old.pending) none;
           place = place;
           flat = λ told. starves_flat (flat_of old.text.buffer) (flat_of new.text.buffer) old.pending new.text.buffer.short lives_on (answers.told (rw kept refl) told);
@@ -231,10 +231,10 @@ written_passed old new pending left reply before after is some answers takes sta
     record {
       kept = answers.keeps.exported ∙ is.kept;
       asks = subst (λ (settings : TextSettings). 0 < settings.chunk_size) (sym stands.settings) is.asks;
-      clean = λ dirty. stands.clean.taken;
+      clean = λ dirty. (stands.clean.taken, stands.front ∙ was.2);
       handler = λ writes. ap (λ (settings : TextSettings). writes_texts settings.handler) stands.settings ∙ is.handler (sym (ap (λ (can : Abilities). can.writable) answers.keeps.can) ∙ writes);
       lives = lives;
-      stands = inr (stands.clean, stands.at);
+      stands = inr (stands.clean, stands.at, stands.front ∙ was.2);
       joined = joined;
       far = omega (arith, is.far, ap length left_is, length-drop new.buffer.taken pending, taken, takes.within, takes.place);
       unwritten = λ never. absurd (some (is.unwritten (sym (ap (λ (can : Abilities). can.writable) answers.keeps.can) ∙ never)).0);
@@ -277,7 +277,7 @@ joined_bare text pending room current none joined = subst (λ (owed : List ℕ).
 -- Going back to the place.
 
 kept_place : (old new : TextView) → KeepsPlace old new → place_of new ≡ place_of old
-kept_place old new place = rw (place.at, place.taken, place.dirty) refl
+kept_place old new place = rw (place.front, place.at, place.taken, place.dirty) refl
 
 back_bytes : (old new : TextView) (pending : List ℕ) (current : Life) → IsWritten old pending current → KeepsPlace old new → (new.at ≡ new.buffer.place) ⊎ (new.buffer.place ≡ old.buffer.place) → (flat_of new.buffer).bytes ≡ (flat_of old.buffer).bytes → lay (flat_of new.buffer).bytes new.buffer.place pending ≡ lay (flat_of old.buffer).bytes old.buffer.place pending
 back_bytes old new [] current is place there flat = flat
@@ -312,7 +312,7 @@ went_back now old new pending room more before after same is live place outcome 
       raw_bytes = outcome.1.raw_bytes;
       lives = current ∙ lives;
       pending = refl;
-      stands = (record { taken = place.taken ∙ is.clean clean; dirty = place.dirty ∙ clean }, outcome.0);
+      stands = (record { taken = place.taken ∙ (is.clean clean).0; dirty = place.dirty ∙ clean }, outcome.0, place.front ∙ (is.clean clean).1);
       still = outcome.2;
     })
 
@@ -321,7 +321,7 @@ pub written_back : (old new : TextView) (pending : List ℕ) (before after : Lif
 written_back old new pending before after faulted is live place there leaves writes current joined = record {
   kept = leaves.keeps.exported ∙ is.kept;
   asks = subst (λ (settings : TextSettings). 0 < settings.chunk_size) (sym place.settings) is.asks;
-  clean = λ dirty. place.taken ∙ is.clean (sym place.dirty ∙ dirty);
+  clean = λ dirty. let was = is.clean (sym place.dirty ∙ dirty) in (place.taken ∙ was.0, place.front ∙ was.1);
   handler = λ can. ap (λ (settings : TextSettings). writes_texts settings.handler) place.settings ∙ is.handler writes;
   lives = λ lives. sym current ∙ lives;
   stands = stood is.stands;
@@ -332,7 +332,7 @@ written_back old new pending before after faulted is live place there leaves wri
   where
     stood : (pending ≡ []) ⊎ StandsToWrite old → (pending ≡ []) ⊎ StandsToWrite new
     stood (inl none) = inl none
-    stood (inr stands) = inr (record { taken = place.taken ∙ stands.0.taken; dirty = place.dirty ∙ stands.0.dirty }, omega (arith, at_place there stands.1))
+    stood (inr stands) = inr (record { taken = place.taken ∙ stands.0.taken; dirty = place.dirty ∙ stands.0.dirty }, omega (arith, at_place there stands.1), place.front ∙ stands.2)
       where
         at_place : (new.at ≡ new.buffer.place) ⊎ (new.buffer.place ≡ old.buffer.place) → old.at ≡ old.buffer.place → new.at ≡ new.buffer.place
         at_place (inl now) was = now

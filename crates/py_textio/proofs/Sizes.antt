@@ -13,10 +13,13 @@ use Rattle.py_plain_text.specs.Rest.{text_rest}
 use Rattle.py_plain_text.specs.TextStep.{asks_past, asks_any, range_refusal, after_taking, after_text_read, answered_text}
 use Rattle.py_plain_text.specs.TextCalls.{TextFileCall, Read, ReadLine, SeekText, SetChunkSize, Close, Detach, ChunkSize}
 use Rattle.py_plain_text.specs.TextRefusals.{refusal}
-use Rattle.py_plain_text.specs.TextExact.{answered, carried_out, with_chunk_size}
+use Rattle.py_plain_text.specs.TextExact.{answered, after_landing, carried_out, with_chunk_size}
+use Rattle.py_plain_text.specs.Cookie.{Cookie, boundary_cookie, cookie_of, flags_of}
+use Rattle.py_plain_text.specs.Landing.{Landed, Stands, CantRestore, lands}
+use Rattle.py_plain_text.specs.Telling.{told}
 use Rattle.py_plain_text.specs.TextAllowed.{Settled, SettledBy, Accepted, DetachesIn}
 use Rattle.py_read_text.specs.TextState.{TextState, file_of}
-use Rattle.py_read_text.specs.Answers.{Answers, IsAnswerTo}
+use Rattle.py_read_text.specs.Answers.{refused_here, Answers, IsAnswerTo}
 use Rattle.py_textio.specs.Sizes.{AreAlike, IsSmoothCall, AnswersAll}
 use Rattle.py_textio.proofs.Smooth.{settles}
 
@@ -59,9 +62,8 @@ left_line None file chunk limit =
 
 -- Any call.
 
--- calls that tell no chunk size, and don't go to a place
+-- calls that tell no chunk size
 abbrev pub goes_alike : TextFileCall → Bool
-goes_alike (SeekText cookie whence) = false
 goes_alike ChunkSize = false
 goes_alike call = true
 
@@ -82,6 +84,10 @@ closes_not is = absurd (cc)
 detaches_not : life.Detached ≢ life.Failed
 detaches_not is = absurd (cc)
 
+landing_alike : (file : TextFile) (chunk : ℕ) (sought : Cookie) (landed : Landed) → file.life ≢ life.Failed → StepsAlike (after_landing file sought landed) (after_landing (with_chunk_size file chunk) sought landed)
+landing_alike file chunk sought (Stands place) lives = record { says = refl; chunk = chunk; leaves = refl; lives = lives }
+landing_alike file chunk sought (CantRestore place) lives = record { says = refl; chunk = chunk; leaves = refl; lives = lives }
+
 carried_alike : (file : TextFile) (chunk : ℕ) (call : TextFileCall) → goes_alike call ≡ true → file.life ≢ life.Failed → StepsAlike (answered file call None) (answered (with_chunk_size file chunk) call None)
 carried_alike file chunk (Read None) is lives =
     let cs : List ℕ = (text_rest file).characters in
@@ -96,7 +102,11 @@ carried_alike file chunk (ReadLine limit) is lives =
 carried_alike file chunk (SetChunkSize size) is lives = record { says = refl; chunk = size; leaves = refl; lives = lives }
 carried_alike file chunk Close is lives = record { says = refl; chunk = chunk; leaves = refl; lives = closes_not }
 carried_alike file chunk Detach is lives = record { says = refl; chunk = chunk; leaves = refl; lives = detaches_not }
-carried_alike file chunk (SeekText cookie whence) is lives = absurd (cc)
+carried_alike file chunk (SeekText bytes (pos (suc zero))) is lives = landing_alike file chunk (told file) (lands file (told file)) lives
+carried_alike file chunk (SeekText bytes (pos (suc (suc zero)))) is lives =
+    let end : Cookie = boundary_cookie (length file.bytes) (flags_of file.place.order) in
+    landing_alike file chunk end (lands file end) lives
+carried_alike file chunk (SeekText bytes whence) is lives = landing_alike file chunk (cookie_of bytes) (lands file (cookie_of bytes)) lives
 carried_alike file chunk ChunkSize is lives = absurd (cc)
 carried_alike file chunk call is lives = record { says = refl; chunk = chunk; leaves = refl; lives = lives }
 
@@ -132,10 +142,8 @@ settled_alike file chunk call reply replied left right is lives one other =
 
 -- Calls of texts over buffers.
 
--- no call tells a chunk size by the clause of all calls, nor goes to a place
+-- no call tells a chunk size by the clause of all calls
 unanswered : (call : TextFileCall) (reply : FileReply) → goes_alike call ≡ false → IsAnswerTo call reply → reply ≢ Refused fault.NoMemory → ⊥
-unanswered (SeekText cookie whence) (Refused fault.NoMemory) is answers had = absurd (had refl)
-unanswered (SeekText cookie whence) reply is answers had = answers
 unanswered ChunkSize (Refused fault.NoMemory) is answers had = absurd (had refl)
 unanswered ChunkSize reply is answers had = answers
 unanswered call reply is answers had = absurd (cc)
@@ -151,23 +159,14 @@ settled_calls one other call reply replied left right goes alike lives here ther
     let both = settled_alike (file_of one) alike.0 call reply replied (file_of left) (file_of right) goes lives here (subst (λ (file : TextFile). Settled file call replied (file_of right)) alike.1 there) in
     record { says = both.says; alike = (both.chunk, both.leaves); lives = both.lives }
 
-refused_calls : (one other : TextState) (call : TextFileCall) (reply replied : FileReply) (left right : TextState) (why : IoFault) → AreAlike one other → one.text.life ≢ life.Failed → refusal (file_of one) call ≡ Some why → Answers one call reply left → Answers other call replied right → CallsAlike reply replied left right
-refused_calls one other call reply replied left right why alike lives refused step stepped =
-    let here = step.refused why refused in
-    let there = stepped.refused why (ap (λ (file : TextFile). refusal file call) alike.1 ∙ (refused_alike (file_of one) alike.0 call ∙ refused)) in
-    record {
-      says = there.says ∙ sym here.says;
-      alike = (alike.0, ap file_of there.same ∙ (alike.1 ∙ ap (λ (text : TextState). with_chunk_size (file_of text) alike.0) (sym here.same)));
-      lives = λ failed. lives (sym (ap (λ (text : TextState). text.text.life) here.same) ∙ failed);
-    }
-
-other_calls : (refused : Option IoFault) (one other : TextState) (call : TextFileCall) (reply replied : FileReply) (left right : TextState) → refusal (file_of one) call ≡ refused → goes_alike call ≡ false → AreAlike one other → one.text.life ≢ life.Failed → Answers one call reply left → IsSmoothCall one reply left → Answers other call replied right → CallsAlike reply replied left right
-other_calls None one other call reply replied left right is goes alike lives step smooth stepped = absurd (unanswered call reply goes (step.complete is smooth.waits smooth.faults).answer smooth.memory)
-other_calls (Some why) one other call reply replied left right is goes alike lives step smooth stepped = refused_calls one other call reply replied left right why alike lives is step stepped
+-- nothing refuses a call that asks for one
+unrefused : (file : TextFile) (call : TextFileCall) → goes_alike call ≡ false → refused_here file call ≡ None
+unrefused file ChunkSize is = refl
+unrefused file call is = absurd (cc)
 
 calls_alike : (goes : Bool) (one other : TextState) (call : TextFileCall) (reply replied : FileReply) (left right : TextState) → goes_alike call ≡ goes → AreAlike one other → one.text.life ≢ life.Failed → Answers one call reply left → IsSmoothCall one reply left → Answers other call replied right → IsSmoothCall other replied right → CallsAlike reply replied left right
 calls_alike true one other call reply replied left right goes alike lives step smooth stepped smoothly = settled_calls one other call reply replied left right goes alike lives (settles one call reply left step smooth) (settles other call replied right stepped smoothly)
-calls_alike false one other call reply replied left right goes alike lives step smooth stepped smoothly = other_calls (refusal (file_of one) call) one other call reply replied left right refl goes alike lives step smooth stepped
+calls_alike false one other call reply replied left right goes alike lives step smooth stepped smoothly = absurd (unanswered call reply goes (step.complete (unrefused (file_of one) call goes) smooth.waits smooth.faults).answer smooth.memory)
 
 pub all_alike : (one other : TextState) (calls : List TextFileCall) (replies others : List FileReply) (left right : TextState) → AreAlike one other → one.text.life ≢ life.Failed → AnswersAll one calls replies left → AnswersAll other calls others right → (others ≡ replies) × AreAlike left right
 all_alike one other [] [] [] left right alike lives steps stepped =

@@ -9,7 +9,7 @@ use Rattle.py_flat.specs.Calls.{FileReply, NotReady, Refused}
 use Rattle.py_flat.specs.Causes.{Rose, rose}
 use Rattle.py_plain_text.specs.TextFile.{TextFile, TextPlace, TextSettings}
 use Rattle.py_plain_text.specs.TextCalls.{TextFileCall, Close}
-use Rattle.py_plain_text.specs.TextRefusals.{refusal}
+use Rattle.py_plain_text.specs.TextOver.{TextOver}
 use Rattle.py_plain_text.specs.TextAllowed.{Fails, TextFileStep}
 use Rattle.py_stream.specs.Kinds.{says_wait, says_fault}
 use Rattle.py_stream.specs.Buffer.{Buffer, WhereShown}
@@ -19,9 +19,9 @@ use Rattle.py_read_text.specs.Owing.{IsJoined, WriteMovesBy, FailedWithOwn, Star
 use Rattle.py_read_text.proofs.Calling.{Passing, faulted_life, passes_accepted, fails_still, wait_step, fault_step, starve_step}
 use Rattle.py_read_text.proofs.Owing.{owes_none, has_own, owing_open}
 use Rattle.py_read_text.specs.Knowing.{place_of}
-use Rattle.py_read_text.specs.Answers.{calls_nothing, passes_on, IsReplyTo, IsComplete, IsShort, PlaceMoves, ReadsOneLine, WriteMoves, LifeMoves, settings_after, closes_again, WantsMemory, TextPasses, TextKeeps, TextHolds, TextBlames, Answers}
+use Rattle.py_read_text.specs.Answers.{refused_here, calls_nothing, passes_on, IsReplyTo, IsComplete, IsShort, PlaceMoves, ReadsOneLine, WriteMoves, LifeMoves, settings_after, closes_again, WantsMemory, TextPasses, TextKeeps, TextHolds, TextBlames, TextSeeks, Answers}
 use Rattle.py_read_text.specs.Reading.{call_of, asks_none}
-use Rattle.py_read_text.proofs.Steps.{accepts, works, waited_by}
+use Rattle.py_read_text.proofs.Steps.{accepts_here, works, waited_by}
 use Rattle.py_read_text.proofs.Results.{faults_step, starves_step}
 use Rattle.py_textio.specs.Written.{WrittenView, place_now, over_of, state_of, file_now, HandsOn, TakesNothing, IsStuffed, SettleOutcome, stopped_reply, with_taken}
 use Rattle.py_textio.specs.Working.{Works}
@@ -47,6 +47,7 @@ pub record Ends (call : TextFileCall) (reply : FileReply) (short : Bool) : Type 
   pub holds : (before after : _) → TextHolds before call reply after
   pub lines : (newline : _) → ReadsOneLine newline call reply
   pub blames : (own : TextPlace) (far : ℕ) → TextBlames call reply own far
+  pub seeks : (before : TextOver Buffer) → TextSeeks call reply before before.place
   pub moves : (from to : ℕ) → WriteMovesBy call 0 from to
   pub closes : (current : Life) (before after : Buffer) → KeepsOpen before after → Closes current call before reply after
 
@@ -61,7 +62,7 @@ busy_so : (owed : List ℕ) (call : TextFileCall) → owed ≢ [] → passes_on 
 busy_so [] call some = absurd (some refl)
 busy_so (byte ∷ more) call some = grind arith
 
-pub ends_work : (old : WrittenView) (call : TextFileCall) (reply : FileReply) (new : WrittenView) (short : Bool) → Owes old → Ends call reply short → refusal (file_now old) call ≡ None → HandsOn old short (says_fault reply) new → new.text.at ≡ new.text.buffer.place → (IsTrue short → (new.pending ≢ []) × IsStuffed new.text.buffer) → LifeMoves true call reply old.life new.life → IsJoined (over_of new) → Starves (over_of old) call reply (over_of new) → WantsMemory call reply old.text.buffer → WhereShown old.text.buffer (TextFileStep (file_now old) call reply short (says_fault reply) (file_now new)) → Works old call reply new short
+pub ends_work : (old : WrittenView) (call : TextFileCall) (reply : FileReply) (new : WrittenView) (short : Bool) → Owes old → Ends call reply short → refused_here (file_now old) call ≡ None → HandsOn old short (says_fault reply) new → new.text.at ≡ new.text.buffer.place → (IsTrue short → (new.pending ≢ []) × IsStuffed new.text.buffer) → LifeMoves true call reply old.life new.life → IsJoined (over_of new) → Starves (over_of old) call reply (over_of new) → WantsMemory call reply old.text.buffer → WhereShown old.text.buffer (TextFileStep (file_now old) call reply short (says_fault reply) (file_now new)) → Works old call reply new short
 ends_work old call reply new short owes ends accepted hands there left current joined starves wants told = record {
   accepted = accepted;
   once = ap (λ (own : Life). closes_again own call) owes.live ∙ ends.once;
@@ -76,6 +77,7 @@ ends_work old call reply new short owes ends accepted hands there left current j
   written = subst (λ (own : TextPlace). WriteMoves old.text.settings call reply (place_now old) own) (sym hands.place) (ends.written old.text.settings (place_now old));
   lines = ends.lines old.text.settings.newline;
   blames = ends.blames (place_now old) new.text.buffer.place;
+  seeks = subst (λ (own : TextPlace). TextSeeks call reply (over_of old) own) (sym hands.place) (ends.seeks (over_of old));
   joined = joined;
   owes = owes_none (over_of old) call (over_of new) (ends.moves (place_now old).at (place_now new).at) hands.owes;
   lays = lays_given (over_of old) (given_by old.text.settings call) (over_of new) hands.lays;
@@ -112,19 +114,19 @@ some_asked : (asked : Wanted) → asks_none asked ≡ false → calls_nothing (c
 some_asked asked some = grind arith
 
 unready_ends : (asked : Wanted) → asks_none asked ≡ false → Ends (call_of asked) NotReady true
-unready_ends (Characters None) some = record { once = refl; some = some_asked (Characters None) some; shorts = refl; settings = λ own. refl; place = λ own end. refl; written = λ settings own. tt; answer = tt; calm = λ is. absurd (cc); passes = λ before after. tt; kept = λ after. tt; holds = λ before after. tt; lines = λ newline. tt; blames = λ own far. tt; moves = λ from to. tt; closes = λ current before after kept. tt }
-unready_ends (Characters (Some size)) some = record { once = refl; some = some_asked (Characters (Some size)) some; shorts = refl; settings = λ own. refl; place = λ own end. refl; written = λ settings own. tt; answer = tt; calm = λ is. absurd (cc); passes = λ before after. tt; kept = λ after. tt; holds = λ before after. tt; lines = λ newline. tt; blames = λ own far. tt; moves = λ from to. tt; closes = λ current before after kept. tt }
-unready_ends (Line limit) some = record { once = refl; some = some_asked (Line limit) some; shorts = refl; settings = λ own. refl; place = λ own end. refl; written = λ settings own. tt; answer = tt; calm = λ is. absurd (cc); passes = λ before after. tt; kept = λ after. tt; holds = λ before after. tt; lines = λ newline. tt; blames = λ own far. tt; moves = λ from to. tt; closes = λ current before after kept. tt }
+unready_ends (Characters None) some = record { once = refl; some = some_asked (Characters None) some; shorts = refl; settings = λ own. refl; place = λ own end. refl; written = λ settings own. tt; answer = tt; calm = λ is. absurd (cc); passes = λ before after. tt; kept = λ after. tt; holds = λ before after. tt; lines = λ newline. tt; blames = λ own far. tt; seeks = λ before. tt; moves = λ from to. tt; closes = λ current before after kept. tt }
+unready_ends (Characters (Some size)) some = record { once = refl; some = some_asked (Characters (Some size)) some; shorts = refl; settings = λ own. refl; place = λ own end. refl; written = λ settings own. tt; answer = tt; calm = λ is. absurd (cc); passes = λ before after. tt; kept = λ after. tt; holds = λ before after. tt; lines = λ newline. tt; blames = λ own far. tt; seeks = λ before. tt; moves = λ from to. tt; closes = λ current before after kept. tt }
+unready_ends (Line limit) some = record { once = refl; some = some_asked (Line limit) some; shorts = refl; settings = λ own. refl; place = λ own end. refl; written = λ settings own. tt; answer = tt; calm = λ is. absurd (cc); passes = λ before after. tt; kept = λ after. tt; holds = λ before after. tt; lines = λ newline. tt; blames = λ own far. tt; seeks = λ before. tt; moves = λ from to. tt; closes = λ current before after kept. tt }
 
 fault_ends : (asked : Wanted) → asks_none asked ≡ false → Ends (call_of asked) (Refused fault.RawFault) false
-fault_ends (Characters None) some = record { once = refl; some = some_asked (Characters None) some; shorts = refl; settings = λ own. refl; place = λ own end. refl; written = λ settings own. tt; answer = tt; calm = λ is fails. absurd (cc); passes = λ before after. tt; kept = λ after. tt; holds = λ before after. tt; lines = λ newline. tt; blames = λ own far. tt; moves = λ from to. tt; closes = λ current before after kept. tt }
-fault_ends (Characters (Some size)) some = record { once = refl; some = some_asked (Characters (Some size)) some; shorts = refl; settings = λ own. refl; place = λ own end. refl; written = λ settings own. tt; answer = tt; calm = λ is fails. absurd (cc); passes = λ before after. tt; kept = λ after. tt; holds = λ before after. tt; lines = λ newline. tt; blames = λ own far. tt; moves = λ from to. tt; closes = λ current before after kept. tt }
-fault_ends (Line limit) some = record { once = refl; some = some_asked (Line limit) some; shorts = refl; settings = λ own. refl; place = λ own end. refl; written = λ settings own. tt; answer = tt; calm = λ is fails. absurd (cc); passes = λ before after. tt; kept = λ after. tt; holds = λ before after. tt; lines = λ newline. tt; blames = λ own far. tt; moves = λ from to. tt; closes = λ current before after kept. tt }
+fault_ends (Characters None) some = record { once = refl; some = some_asked (Characters None) some; shorts = refl; settings = λ own. refl; place = λ own end. refl; written = λ settings own. tt; answer = tt; calm = λ is fails. absurd (cc); passes = λ before after. tt; kept = λ after. tt; holds = λ before after. tt; lines = λ newline. tt; blames = λ own far. tt; seeks = λ before. tt; moves = λ from to. tt; closes = λ current before after kept. tt }
+fault_ends (Characters (Some size)) some = record { once = refl; some = some_asked (Characters (Some size)) some; shorts = refl; settings = λ own. refl; place = λ own end. refl; written = λ settings own. tt; answer = tt; calm = λ is fails. absurd (cc); passes = λ before after. tt; kept = λ after. tt; holds = λ before after. tt; lines = λ newline. tt; blames = λ own far. tt; seeks = λ before. tt; moves = λ from to. tt; closes = λ current before after kept. tt }
+fault_ends (Line limit) some = record { once = refl; some = some_asked (Line limit) some; shorts = refl; settings = λ own. refl; place = λ own end. refl; written = λ settings own. tt; answer = tt; calm = λ is fails. absurd (cc); passes = λ before after. tt; kept = λ after. tt; holds = λ before after. tt; lines = λ newline. tt; blames = λ own far. tt; seeks = λ before. tt; moves = λ from to. tt; closes = λ current before after kept. tt }
 
 memory_ends : (asked : Wanted) → asks_none asked ≡ false → Ends (call_of asked) (Refused fault.NoMemory) false
-memory_ends (Characters None) some = record { once = refl; some = some_asked (Characters None) some; shorts = refl; settings = λ own. refl; place = λ own end. refl; written = λ settings own. tt; answer = tt; calm = λ is fails. record { answer = tt; whole = refl }; passes = λ before after. tt; kept = λ after. tt; holds = λ before after. tt; lines = λ newline. tt; blames = λ own far. tt; moves = λ from to. tt; closes = λ current before after kept. tt }
-memory_ends (Characters (Some size)) some = record { once = refl; some = some_asked (Characters (Some size)) some; shorts = refl; settings = λ own. refl; place = λ own end. refl; written = λ settings own. tt; answer = tt; calm = λ is fails. record { answer = tt; whole = refl }; passes = λ before after. tt; kept = λ after. tt; holds = λ before after. tt; lines = λ newline. tt; blames = λ own far. tt; moves = λ from to. tt; closes = λ current before after kept. tt }
-memory_ends (Line limit) some = record { once = refl; some = some_asked (Line limit) some; shorts = refl; settings = λ own. refl; place = λ own end. refl; written = λ settings own. tt; answer = tt; calm = λ is fails. record { answer = tt; whole = refl }; passes = λ before after. tt; kept = λ after. tt; holds = λ before after. tt; lines = λ newline. tt; blames = λ own far. tt; moves = λ from to. tt; closes = λ current before after kept. tt }
+memory_ends (Characters None) some = record { once = refl; some = some_asked (Characters None) some; shorts = refl; settings = λ own. refl; place = λ own end. refl; written = λ settings own. tt; answer = tt; calm = λ is fails. record { answer = tt; whole = refl }; passes = λ before after. tt; kept = λ after. tt; holds = λ before after. tt; lines = λ newline. tt; blames = λ own far. tt; seeks = λ before. tt; moves = λ from to. tt; closes = λ current before after kept. tt }
+memory_ends (Characters (Some size)) some = record { once = refl; some = some_asked (Characters (Some size)) some; shorts = refl; settings = λ own. refl; place = λ own end. refl; written = λ settings own. tt; answer = tt; calm = λ is fails. record { answer = tt; whole = refl }; passes = λ before after. tt; kept = λ after. tt; holds = λ before after. tt; lines = λ newline. tt; blames = λ own far. tt; seeks = λ before. tt; moves = λ from to. tt; closes = λ current before after kept. tt }
+memory_ends (Line limit) some = record { once = refl; some = some_asked (Line limit) some; shorts = refl; settings = λ own. refl; place = λ own end. refl; written = λ settings own. tt; answer = tt; calm = λ is fails. record { answer = tt; whole = refl }; passes = λ before after. tt; kept = λ after. tt; holds = λ before after. tt; lines = λ newline. tt; blames = λ own far. tt; seeks = λ before. tt; moves = λ from to. tt; closes = λ current before after kept. tt }
 
 wants_nothing : (asked : Wanted) (reply : FileReply) (buffer : Buffer) → WantsMemory (call_of asked) reply buffer
 wants_nothing (Characters size) reply buffer = tt
@@ -145,36 +147,40 @@ midway_read file after (Line limit) live can writes fails = out_of_memory refl (
 pub read_waits : (old new : WrittenView) (asked : Wanted) → Owes old → old.text.buffer.can.readable ≡ true → asks_none asked ≡ false → HandsOn old true false new → new.text.at ≡ new.text.buffer.place → (new.pending ≢ []) × IsStuffed new.text.buffer → new.life ≡ life.Live → IsJoined (over_of new) → Answers (state_of old false) (call_of asked) NotReady (state_of new true)
 read_waits old new asked owes can some hands there left lives joined =
     let current : new.life ≡ old.life = lives ∙ sym owes.live in
-    answers_work old (call_of asked) NotReady new true (ends_work old (call_of asked) NotReady new true owes (unready_ends asked some) (accepts (file_now old) asked owes.live can) hands there (λ is. left) (same_life asked NotReady refl old.life new.life current) joined tt (wants_nothing asked NotReady old.text.buffer)
+    answers_work old (call_of asked) NotReady new true (ends_work old (call_of asked) NotReady new true owes (unready_ends asked some) (accepts_here (file_now old) asked owes.live can) hands there (λ is. left) (same_life asked NotReady refl old.life new.life current) joined tt (wants_nothing asked NotReady old.text.buffer)
     (λ told. waited_for refl (works (file_now old) asked owes.live can, waited_by (file_now old) asked NotReady (file_now new) (inl (refl, handed_file old new true false hands current told)))))
 
 pub read_fails : (old new : WrittenView) (asked : Wanted) → Owes old → old.text.buffer.can.readable ≡ true → asks_none asked ≡ false → HandsOn old false true new → new.text.at ≡ new.text.buffer.place → new.life ≡ life.Failed → IsJoined (over_of new) → Answers (state_of old false) (call_of asked) (Refused fault.RawFault) (state_of new false)
 read_fails old new asked owes can some hands there failed joined =
-    answers_work old (call_of asked) (Refused fault.RawFault) new false (ends_work old (call_of asked) (Refused fault.RawFault) new false owes (fault_ends asked some) (accepts (file_now old) asked owes.live can) hands there (λ is. absurd (cc)) (failed_life asked old.life new.life failed) joined tt (wants_nothing asked (Refused fault.RawFault) old.text.buffer)
+    answers_work old (call_of asked) (Refused fault.RawFault) new false (ends_work old (call_of asked) (Refused fault.RawFault) new false owes (fault_ends asked some) (accepts_here (file_now old) asked owes.live can) hands there (λ is. absurd (cc)) (failed_life asked old.life new.life failed) joined tt (wants_nothing asked (Refused fault.RawFault) old.text.buffer)
     (λ told. faults_step (file_now old) (file_now new) asked owes.live can failed (hands.bytes told) hands.calls.keeps.can hands.settings))
 
 pub read_starves : (old new : WrittenView) (asked : Wanted) → Owes old → old.text.buffer.can.readable ≡ true → asks_none asked ≡ false → HandsOn old false false new → new.text.at ≡ new.text.buffer.place → IsTrue old.text.buffer.raw.takes_memory → (new.life ≡ life.Live) ⊎ ((new.life ≡ life.Failed) × FailedWithOwn (over_of old) (over_of new)) → IsJoined (over_of new) → Answers (state_of old false) (call_of asked) (Refused fault.NoMemory) (state_of new false)
 read_starves old new asked owes can some hands there takes (inl lives) joined =
     let current : new.life ≡ old.life = lives ∙ sym owes.live in
-    answers_work old (call_of asked) (Refused fault.NoMemory) new false (ends_work old (call_of asked) (Refused fault.NoMemory) new false owes (memory_ends asked some) (accepts (file_now old) asked owes.live can) hands there (λ is. absurd (cc)) (inl current) joined (starved_not old new (call_of asked) hands current) (wants_nothing asked (Refused fault.NoMemory) old.text.buffer)
+    answers_work old (call_of asked) (Refused fault.NoMemory) new false (ends_work old (call_of asked) (Refused fault.NoMemory) new false owes (memory_ends asked some) (accepts_here (file_now old) asked owes.live can) hands there (λ is. absurd (cc)) (inl current) joined (starved_not old new (call_of asked) hands current) (wants_nothing asked (Refused fault.NoMemory) old.text.buffer)
     (λ told. starves_step (file_now old) (file_now new) asked owes.live can (handed_file old new false false hands current told)))
 read_starves old new asked owes can some hands there takes (inr failed) joined =
-    answers_work old (call_of asked) (Refused fault.NoMemory) new false (ends_work old (call_of asked) (Refused fault.NoMemory) new false owes (memory_ends asked some) (accepts (file_now old) asked owes.live can) hands there (λ is. absurd (cc)) (inr (refl, failed.0)) joined (inr (record { life_is = failed.0; takes = takes; has = has_own (over_of old) (call_of asked) owes.some; gave = inl failed.1 })) (wants_nothing asked (Refused fault.NoMemory) old.text.buffer)
+    answers_work old (call_of asked) (Refused fault.NoMemory) new false (ends_work old (call_of asked) (Refused fault.NoMemory) new false owes (memory_ends asked some) (accepts_here (file_now old) asked owes.live can) hands there (λ is. absurd (cc)) (inr (refl, failed.0)) joined (inr (inl (record { life_is = failed.0; takes = takes; has = has_own (over_of old) (call_of asked) owes.some; gave = inl failed.1 }))) (wants_nothing asked (Refused fault.NoMemory) old.text.buffer)
     (λ told. midway_read (file_now old) (file_now new) asked owes.live can owes.writes (fails_still (file_now old) (file_now new) life.Failed failed.0 (hands.bytes told) hands.calls.keeps.can hands.settings)))
 
 -- Flushing and closing.
 
+accepted_here : (file : TextFile) (closes : Bool) → file.life ≡ life.Live → refused_here file (Passing closes) ≡ None
+accepted_here file true live = passes_accepted file true live
+accepted_here file false live = passes_accepted file false live
+
 wait_ends : (closes : Bool) → Ends (Passing closes) (Refused (fault.WouldBlock 0)) true
-wait_ends true = record { once = refl; some = refl; shorts = refl; settings = λ own. refl; place = λ own end. refl; written = λ settings own. tt; answer = (refl, refl); calm = λ is fails. absurd (cc); passes = λ before after. tt; kept = λ after. tt; holds = λ before after. tt; lines = λ newline. tt; blames = λ own far. tt; moves = λ from to. tt; closes = λ current before after kept. tt }
-wait_ends false = record { once = refl; some = refl; shorts = refl; settings = λ own. refl; place = λ own end. refl; written = λ settings own. tt; answer = (refl, refl); calm = λ is fails. absurd (cc); passes = λ before after. tt; kept = λ after. tt; holds = λ before after. tt; lines = λ newline. tt; blames = λ own far. tt; moves = λ from to. tt; closes = λ current before after kept. tt }
+wait_ends true = record { once = refl; some = refl; shorts = refl; settings = λ own. refl; place = λ own end. refl; written = λ settings own. tt; answer = (refl, refl); calm = λ is fails. absurd (cc); passes = λ before after. tt; kept = λ after. tt; holds = λ before after. tt; lines = λ newline. tt; blames = λ own far. tt; seeks = λ before. tt; moves = λ from to. tt; closes = λ current before after kept. tt }
+wait_ends false = record { once = refl; some = refl; shorts = refl; settings = λ own. refl; place = λ own end. refl; written = λ settings own. tt; answer = (refl, refl); calm = λ is fails. absurd (cc); passes = λ before after. tt; kept = λ after. tt; holds = λ before after. tt; lines = λ newline. tt; blames = λ own far. tt; seeks = λ before. tt; moves = λ from to. tt; closes = λ current before after kept. tt }
 
 passing_faults : (closes : Bool) → Ends (Passing closes) (Refused fault.RawFault) false
-passing_faults true = record { once = refl; some = refl; shorts = refl; settings = λ own. refl; place = λ own end. refl; written = λ settings own. tt; answer = tt; calm = λ is fails. absurd (cc); passes = λ before after. tt; kept = λ after. tt; holds = λ before after. tt; lines = λ newline. tt; blames = λ own far. tt; moves = λ from to. tt; closes = λ current before after kept. kept.attached }
-passing_faults false = record { once = refl; some = refl; shorts = refl; settings = λ own. refl; place = λ own end. refl; written = λ settings own. tt; answer = tt; calm = λ is fails. absurd (cc); passes = λ before after. tt; kept = λ after. tt; holds = λ before after. tt; lines = λ newline. tt; blames = λ own far. tt; moves = λ from to. tt; closes = λ current before after kept. tt }
+passing_faults true = record { once = refl; some = refl; shorts = refl; settings = λ own. refl; place = λ own end. refl; written = λ settings own. tt; answer = tt; calm = λ is fails. absurd (cc); passes = λ before after. tt; kept = λ after. tt; holds = λ before after. tt; lines = λ newline. tt; blames = λ own far. tt; seeks = λ before. tt; moves = λ from to. tt; closes = λ current before after kept. kept.attached }
+passing_faults false = record { once = refl; some = refl; shorts = refl; settings = λ own. refl; place = λ own end. refl; written = λ settings own. tt; answer = tt; calm = λ is fails. absurd (cc); passes = λ before after. tt; kept = λ after. tt; holds = λ before after. tt; lines = λ newline. tt; blames = λ own far. tt; seeks = λ before. tt; moves = λ from to. tt; closes = λ current before after kept. tt }
 
 passing_starves : (closes : Bool) → Ends (Passing closes) (Refused fault.NoMemory) false
-passing_starves true = record { once = refl; some = refl; shorts = refl; settings = λ own. refl; place = λ own end. refl; written = λ settings own. tt; answer = tt; calm = λ is fails. record { answer = tt; whole = refl }; passes = λ before after. tt; kept = λ after. tt; holds = λ before after. tt; lines = λ newline. tt; blames = λ own far. tt; moves = λ from to. tt; closes = λ current before after kept. tt }
-passing_starves false = record { once = refl; some = refl; shorts = refl; settings = λ own. refl; place = λ own end. refl; written = λ settings own. tt; answer = tt; calm = λ is fails. record { answer = tt; whole = refl }; passes = λ before after. tt; kept = λ after. tt; holds = λ before after. tt; lines = λ newline. tt; blames = λ own far. tt; moves = λ from to. tt; closes = λ current before after kept. tt }
+passing_starves true = record { once = refl; some = refl; shorts = refl; settings = λ own. refl; place = λ own end. refl; written = λ settings own. tt; answer = tt; calm = λ is fails. record { answer = tt; whole = refl }; passes = λ before after. tt; kept = λ after. tt; holds = λ before after. tt; lines = λ newline. tt; blames = λ own far. tt; seeks = λ before. tt; moves = λ from to. tt; closes = λ current before after kept. tt }
+passing_starves false = record { once = refl; some = refl; shorts = refl; settings = λ own. refl; place = λ own end. refl; written = λ settings own. tt; answer = tt; calm = λ is fails. record { answer = tt; whole = refl }; passes = λ before after. tt; kept = λ after. tt; holds = λ before after. tt; lines = λ newline. tt; blames = λ own far. tt; seeks = λ before. tt; moves = λ from to. tt; closes = λ current before after kept. tt }
 
 passing_life : (closes : Bool) (before after : Life) → after ≡ faulted_life closes → LifeMoves true (Passing closes) (Refused fault.RawFault) before after
 passing_life true before after is = is
@@ -199,21 +205,21 @@ fault_wants false buffer = tt
 pub passing_blocked : (old new : WrittenView) (closes : Bool) → Owes old → HandsOn old true false new → new.text.at ≡ new.text.buffer.place → (new.pending ≢ []) × IsStuffed new.text.buffer → new.life ≡ life.Live → IsJoined (over_of new) → Answers (state_of old false) (Passing closes) (Refused (fault.WouldBlock 0)) (state_of new true)
 passing_blocked old new closes owes hands there left lives joined =
     let current : new.life ≡ old.life = lives ∙ sym owes.live in
-    answers_work old (Passing closes) (Refused (fault.WouldBlock 0)) new true (ends_work old (Passing closes) (Refused (fault.WouldBlock 0)) new true owes (wait_ends closes) (passes_accepted (file_now old) closes owes.live) hands there (λ is. left) (passing_waits closes old.life new.life current) joined tt (wait_wants closes old.text.buffer)
+    answers_work old (Passing closes) (Refused (fault.WouldBlock 0)) new true (ends_work old (Passing closes) (Refused (fault.WouldBlock 0)) new true owes (wait_ends closes) (accepted_here (file_now old) closes owes.live) hands there (λ is. left) (passing_waits closes old.life new.life current) joined tt (wait_wants closes old.text.buffer)
     (λ told. wait_step (file_now old) (file_now new) closes owes.live (handed_file old new true false hands current told)))
 
 pub passing_failed : (old new : WrittenView) (closes : Bool) → Owes old → HandsOn old false true new → new.text.at ≡ new.text.buffer.place → new.life ≡ faulted_life closes → IsJoined (over_of new) → Answers (state_of old false) (Passing closes) (Refused fault.RawFault) (state_of new false)
 passing_failed old new closes owes hands there failed joined =
-    answers_work old (Passing closes) (Refused fault.RawFault) new false (ends_work old (Passing closes) (Refused fault.RawFault) new false owes (passing_faults closes) (passes_accepted (file_now old) closes owes.live) hands there (λ is. absurd (cc)) (passing_life closes old.life new.life failed) joined tt (fault_wants closes old.text.buffer)
+    answers_work old (Passing closes) (Refused fault.RawFault) new false (ends_work old (Passing closes) (Refused fault.RawFault) new false owes (passing_faults closes) (accepted_here (file_now old) closes owes.live) hands there (λ is. absurd (cc)) (passing_life closes old.life new.life failed) joined tt (fault_wants closes old.text.buffer)
     (λ told. fault_step (file_now old) (file_now new) closes owes.live (fails_still (file_now old) (file_now new) (faulted_life closes) failed (hands.bytes told) hands.calls.keeps.can hands.settings)))
 
 pub passing_starved : (old new : WrittenView) (closes : Bool) → Owes old → HandsOn old false false new → new.text.at ≡ new.text.buffer.place → IsTrue old.text.buffer.raw.takes_memory → (new.life ≡ life.Live) ⊎ ((new.life ≡ life.Failed) × FailedWithOwn (over_of old) (over_of new)) → IsJoined (over_of new) → Answers (state_of old false) (Passing closes) (Refused fault.NoMemory) (state_of new false)
 passing_starved old new closes owes hands there takes (inl lives) joined =
     let current : new.life ≡ old.life = lives ∙ sym owes.live in
-    answers_work old (Passing closes) (Refused fault.NoMemory) new false (ends_work old (Passing closes) (Refused fault.NoMemory) new false owes (passing_starves closes) (passes_accepted (file_now old) closes owes.live) hands there (λ is. absurd (cc)) (inl current) joined (starved_not old new (Passing closes) hands current) (wants_raw closes old.text.buffer takes)
+    answers_work old (Passing closes) (Refused fault.NoMemory) new false (ends_work old (Passing closes) (Refused fault.NoMemory) new false owes (passing_starves closes) (accepted_here (file_now old) closes owes.live) hands there (λ is. absurd (cc)) (inl current) joined (starved_not old new (Passing closes) hands current) (wants_raw closes old.text.buffer takes)
     (λ told. starve_step (file_now old) (file_now new) closes owes.live (inl (handed_file old new false false hands current told))))
 passing_starved old new closes owes hands there takes (inr failed) joined =
-    answers_work old (Passing closes) (Refused fault.NoMemory) new false (ends_work old (Passing closes) (Refused fault.NoMemory) new false owes (passing_starves closes) (passes_accepted (file_now old) closes owes.live) hands there (λ is. absurd (cc)) (inr (refl, failed.0)) joined (inr (record { life_is = failed.0; takes = takes; has = has_own (over_of old) (Passing closes) owes.some; gave = inl failed.1 })) (wants_raw closes old.text.buffer takes)
+    answers_work old (Passing closes) (Refused fault.NoMemory) new false (ends_work old (Passing closes) (Refused fault.NoMemory) new false owes (passing_starves closes) (accepted_here (file_now old) closes owes.live) hands there (λ is. absurd (cc)) (inr (refl, failed.0)) joined (inr (inl (record { life_is = failed.0; takes = takes; has = has_own (over_of old) (Passing closes) owes.some; gave = inl failed.1 }))) (wants_raw closes old.text.buffer takes)
     (λ told. starve_step (file_now old) (file_now new) closes owes.live (inr (owes.writes, fails_still (file_now old) (file_now new) life.Failed failed.0 (hands.bytes told) hands.calls.keeps.can hands.settings))))
 
 -- By what stopped the handing on.

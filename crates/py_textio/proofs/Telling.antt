@@ -15,7 +15,7 @@ use Rattle.py_plain_text.specs.Cookie.{boundary_cookie, cookie_bytes, is_buildab
 use Rattle.py_plain_text.specs.CookieView.{cookie_shown}
 use Rattle.py_plain_text.specs.Landing.{start_of, fed_by}
 use Rattle.py_plain_text.specs.Telling.{gives_rest, boundaries, told_at, told}
-use Rattle.py_plain_text.specs.TextFile.{TextFile}
+use Rattle.py_plain_text.specs.TextFile.{Front, TextFile}
 use Rattle.py_plain_text.specs.TextOver.{TextOver}
 use Rattle.py_plain_text.specs.TextCalls.{Tell}
 use Rattle.py_plain_text.specs.TextRefusals.{refusal}
@@ -29,7 +29,7 @@ use Rattle.py_telling.specs.ToldView.{spot_shown, told_shown}
 use Rattle.py_raw.proofs.Telling.{keeps_same}
 use Rattle.py_stream.specs.Buffer.{Buffer, WhereShown}
 use Rattle.py_read_text.specs.TextState.{TextState, file_of}
-use Rattle.py_read_text.specs.Owing.{all_owed, behind_own, IsJoined}
+use Rattle.py_read_text.specs.Owing.{all_owed, behind_own, begins, begins_at, IsJoined}
 use Rattle.py_read_text.specs.Knowing.{TextView, over_of as read_of, shown_file}
 use Rattle.py_read_text.specs.Answers.{TellsWithin, Answers}
 use Rattle.py_read_text.proofs.Owing.{passes_none, owes_none, open_still}
@@ -53,19 +53,20 @@ cookie_of spot = by_none (nat_eq spot.skipped 0)
     by_none true = record { start = refl; fed = omega arith; builds = refl }
     by_none false = record { start = refl; fed = omega arith; builds = refl }
 
+builds_so : (shown : Told) (told : TextIOCookie) → cookie_shown told ≡ told_shown shown → is_buildable (cookie_shown told) ≡ true
+builds_so shown told is = ap is_buildable is ∙ (cookie_of (spot_shown shown)).builds
+
 -- it stands within what was taken
-tells_within : (text : TextOver Buffer) (shown : Told) (told : TextIOCookie) → FieldsFit (cookie_shown told) → cookie_shown told ≡ told_shown shown → text.place.at ≤ shown.start → shown.start + shown.length ≤ behind_own text → TellsWithin (cookie_bytes (cookie_shown told)) text
+tells_within : (text : TextOver Buffer) (shown : Told) (told : TextIOCookie) → FieldsFit (cookie_shown told) → cookie_shown told ≡ told_shown shown → begins_at text.place ≤ shown.start → shown.start + shown.length ≤ behind_own text → TellsWithin (cookie_bytes (cookie_shown told)) text
 tells_within text shown told fit is forth within =
     let own = cookie_of (spot_shown shown) in
     record {
       told = cookie_shown told;
       bytes_are = ap (λ (parsed : cookie.Cookie). Some parsed) (cookie_back (cookie_shown told) fit);
+      builds = builds_so shown told is;
       forth = omega (arith, forth, ap start_of is, own.start);
       within = omega (arith, within, ap start_of is, ap fed_by is, own.start, own.fed);
     }
-
-builds_so : (shown : Told) (told : TextIOCookie) → cookie_shown told ≡ told_shown shown → is_buildable (cookie_shown told) ≡ true
-builds_so shown told is = ap is_buildable is ∙ (cookie_of (spot_shown shown)).builds
 
 -- What a text tells.
 
@@ -80,7 +81,7 @@ none_pending size [] is tested = refl
 none_pending size (byte ∷ more) is tested = absurd (grind arith)
 
 -- one that owes nothing itself tells what the text that reads does
-pub tells_read : (now : WrittenView) (text : TextView) (pending : List ℕ) (room : ℕ) (current : Life) (shown : Told) (told_here : TextIOCookie) → view_of text pending room current ≡ now → now.life ≡ life.Live → IsWritten text pending current → pending ≡ [] → FieldsFit (cookie_shown told_here) → cookie_shown told_here ≡ told_shown shown → WhereShown text.buffer (told_shown shown ≡ told (shown_file text)) → text.at ≤ shown.start → shown.start + shown.length ≤ text.buffer.place → TellsPlace now told_here
+pub tells_read : (now : WrittenView) (text : TextView) (pending : List ℕ) (room : ℕ) (current : Life) (shown : Told) (told_here : TextIOCookie) → view_of text pending room current ≡ now → now.life ≡ life.Live → IsWritten text pending current → pending ≡ [] → FieldsFit (cookie_shown told_here) → cookie_shown told_here ≡ told_shown shown → WhereShown text.buffer (told_shown shown ≡ told (shown_file text)) → begins text.front text.at ≤ shown.start → shown.start + shown.length ≤ text.buffer.place → TellsPlace now told_here
 tells_read now text pending room current shown told_here same live is none fit shows told_is forth within =
     let lives : current ≡ life.Live = ap (λ (view : WrittenView). view.life) same ∙ live in
     let states = state_same text pending room current false none (lives ∙ sym (is.lives lives)) in
@@ -100,8 +101,8 @@ tells_behind text (byte ∷ more) room current start told_here is some fit shows
     let stands = stands_so text (byte ∷ more) current is some in
     let view : WrittenView = view_of text (byte ∷ more) room current in
     record {
-      told = λ tells. shows ∙ (ap (λ (at : ℕ). told_shown (behind_them at)) there ∙ told_clean (file_now view) refl stands.0.taken);
-      within = tells_within (over_of view) (behind_them start) told_here fit shows (omega (arith, there)) (omega (arith, there, stands.1));
+      told = λ tells. shows ∙ (ap (λ (at : ℕ). told_shown (behind_them at)) there ∙ told_clean (file_now view) stands.2 stands.0.taken);
+      within = tells_within (over_of view) (behind_them start) told_here fit shows (subst (λ (front : Option Front). begins front (text.at + length (byte ∷ more)) ≤ start) (sym stands.2) (omega (arith, there))) (omega (arith, there, stands.1));
       builds = builds_so (behind_them start) told_here shows;
     }
 
@@ -158,6 +159,7 @@ tell_answers now text was told_here same live can joined tells =
       lines = tt;
       blames = tt;
       tells = tells.within;
+      seeks = tt;
       joined = joined;
       owes = owes_none (over_of text) Tell (over_of text) tt (passes_none text.text.buffer.raw (all_owed (over_of text)));
       lays = lays_still (over_of text) _;

@@ -31,6 +31,7 @@ answers_work old call reply new short works = record {
   lines = works.lines;
   blames = works.blames;
   tells = tells_not call reply (over_of old) works.some;
+  seeks = works.seeks;
   joined = works.joined;
   owes = works.owes;
   lays = works.lays;

@@ -3,18 +3,17 @@ use Rattle.std.specs.Prelude.{◌≡◌, Bool, true, false, IsTrue, [], ◌++◌
 use Rattle.py_flat.specs.Calls.{FileReply}
 use Rattle.py_flat.specs.Causes.{rose}
 use Rattle.py_plain_text.specs.TextCalls.{TextFileCall}
-use Rattle.py_plain_text.specs.TextRefusals.{refusal}
 use Rattle.py_plain_text.specs.TextAllowed.{TextFileStep}
 use Rattle.py_stream.specs.Kinds.{says_fault}
 use Rattle.py_stream.specs.Buffer.{WhereShown}
 use Rattle.py_read_text.specs.Ahead.{ReadsNoFurther}
-use Rattle.py_read_text.specs.Answers.{calls_nothing, passes_on, gives_text, IsReplyTo, IsComplete, IsShort, PlaceMoves, ReadsOneLine, WriteMoves, LifeMoves, settings_after, closes_again, WantsMemory, ClosesWithRaw, HidesNothing, TextPasses, MovesByOwn, TextKeeps, TextHolds, TextBlames}
+use Rattle.py_read_text.specs.Answers.{refused_here, calls_nothing, passes_on, gives_text, may_read, IsReplyTo, IsComplete, IsShort, PlaceMoves, ReadsOneLine, WriteMoves, LifeMoves, settings_after, closes_again, WantsMemory, ClosesWithRaw, HidesNothing, TextPasses, MovesByOwn, TextKeeps, TextHolds, TextBlames, TextSeeks}
 use Rattle.py_read_text.specs.Owing.{all_owed, IsJoined, given_by, OwesOn, LaysOwed, Starves, StopsOwing, KeepsOpen, StaysWhileOwing, may_close, Closes}
 use Rattle.py_textio.specs.Written.{WrittenView, place_now, over_of, state_of, file_now, CallsBuffer}
 
 pub record Works (old : WrittenView) (call : TextFileCall) (reply : FileReply) (new : WrittenView) (short : Bool) : Type 0 where
   -- the call is accepted, and asks for something that only the buffer has
-  pub accepted : refusal (file_now old) call ≡ None
+  pub accepted : refused_here (file_now old) call ≡ None
   pub once : closes_again old.life call ≡ false
   pub some : calls_nothing call ≡ false
   pub busy : passes_on old.pending call ≡ true
@@ -29,6 +28,7 @@ pub record Works (old : WrittenView) (call : TextFileCall) (reply : FileReply) (
   pub written : WriteMoves old.text.settings call reply (place_now old) (place_now new)
   pub lines : ReadsOneLine old.text.settings.newline call reply
   pub blames : TextBlames call reply (place_now old) new.text.buffer.place
+  pub seeks : TextSeeks call reply (over_of old) (place_now new)
   pub joined : IsJoined (over_of new)
   -- what became of the bytes that were owed, and of the raw
   pub owes : OwesOn (over_of old) call (over_of new)
@@ -37,7 +37,7 @@ pub record Works (old : WrittenView) (call : TextFileCall) (reply : FileReply) (
   pub closes : Closes old.life call old.text.buffer reply new.text.buffer
   pub stays : may_close call reply ≡ false → KeepsOpen old.text.buffer new.text.buffer
   pub unclosed : StaysWhileOwing old.text.buffer (over_of new)
-  pub stops : IsTrue short → StopsOwing (gives_text call) (over_of new)
+  pub stops : IsTrue short → StopsOwing (may_read call) (over_of new)
   pub by_own : MovesByOwn call (over_of old) (over_of new)
   -- what was answered
   pub answer : IsReplyTo true call reply

@@ -50,18 +50,18 @@ state_of view short = record { text = over_of view; short = short }
 abbrev pub file_now : WrittenView → TextFile
 file_now view = file_of (state_of view false)
 
--- a text that owes bytes stands, clean, where its buffer stands
+-- a text that owes bytes stands, clean and behind no item, where its buffer stands
 abbrev pub StandsToWrite : TextView → Type 0
-StandsToWrite text = IsClean text × (text.at ≡ text.buffer.place)
+StandsToWrite text = IsClean text × (text.at ≡ text.buffer.place) × (text.front ≡ None)
 
--- what holds of every text: no bytes of its buffer are lent out, and its chunks have some; where no character was asked for none was taken;
--- its handler is one of those that texts are written with, where it writes; while it lives so does its buffer; what it owes begins where the
--- buffer stands, behind what that owes, and ends no further than a stream can; over a buffer that doesn't write it owes nothing, and its life
--- is its buffer's
+-- what holds of every text: no bytes of its buffer are lent out, and its chunks have some; where no character was asked for none was taken,
+-- and it stands behind no item; its handler is one of those that texts are written with, where it writes; while it lives so does its buffer;
+-- what it owes begins where the buffer stands, behind what that owes, and ends no further than a stream can; over a buffer that doesn't write
+-- it owes nothing, and its life is its buffer's
 pub record IsWritten (text : TextView) (pending : List ℕ) (current : Life) : Type 0 where
   pub kept : text.buffer.exported ≡ false
   pub asks : 0 < text.settings.chunk_size
-  pub clean : text.dirty ≡ false → text.taken ≡ 0
+  pub clean : text.dirty ≡ false → (text.taken ≡ 0) × (text.front ≡ None)
   pub handler : text.buffer.can.writable ≡ true → writes_texts text.settings.handler ≡ true
   pub lives : current ≡ life.Live → text.buffer.life ≡ life.Live
   pub stands : (pending ≡ []) ⊎ StandsToWrite text

@@ -172,7 +172,7 @@ impl<B: BufferedStream> TextIOWrapper<B> {
 
     /// Where the text stands, as a cookie of 25 bytes that `TextIOCookie::build` gives: the least boundary between characters from which the
     /// text goes on as it does, or where there is none, inside the characters that stand for one range that its handler replaces. It calls
-    /// no raw, takes no memory and changes nothing.
+    /// no raw, takes no memory and changes nothing but that `short` is false.
     ///
     /// `Unsupported` where its buffer can't be moved.
     pub fn tell(&mut self) -> Result<TextIOCookie, IoFault>

@@ -104,6 +104,7 @@ impl<B: BufferedStream> WrittenText<B> {
         requires kept { text.buffer.exported ≡ false }
         requires asks { 0 < text.settings.chunk_size }
         requires clean { text.taken ≡ 0 }
+        requires front { text.front ≡ None }
         requires handler { text.buffer.can.writable ≡ true → writes_texts text.settings.handler ≡ true }
         requires joined { IsJoined (read_of text) }
         ensures text { result.text ≡ text }

@@ -26,7 +26,7 @@ overflow_add-result-in-Refused c =
 pub invariant_of-self : goal.invariant_of-self
 invariant_of-self c =
     let inside = c.self.inside in
-    kept-known inside.coder inside.known c.decode.new.self inside.gone inside.decoded (vec_len inside.bytes) inside.bytes.items inside.given inside.mark inside.ended inside.place inside.walked c.in_err-front.ensures.same c.self.invariant
+    kept-known inside.coder inside.known c.decode.new.self inside.front inside.gone inside.decoded (vec_len inside.bytes) inside.bytes.items inside.given inside.mark inside.ended inside.place inside.walked c.in_err-front.ensures.same c.self.invariant
 
 pub invariant_of-self-2 : goal.invariant_of-self-2
 invariant_of-self-2 c =
@@ -38,13 +38,13 @@ invariant_of-self-2 c =
     let now_is : c.next_mark-mark.result ≡ marked-by inside.mark inside.known (back_of inside.gone inside.decoded inside.bytes.items) = c.next_mark-mark.ensures ∙ rw (c.holds_cr.ensures, c.len.ensures, back-length inside.gone inside.decoded inside.bytes.items c.self.invariant.1.from (omega (arith, c.self.invariant.1.within, inside.bytes.ok))) refl in
     let seen : c.args.self.now.bytes ≡ bytes = ap (λ (held : HeldView). held.bytes) (sym c.self.view_is) ∙ sym bytes_are in
     let all : c.args.last ≡ true → c.args.size ≡ length bytes = λ last. c.requires.all last ∙ ap length seen in
-    let moves = moves-by inside.coder inside.known c.decode.new.self inside.gone inside.decoded inside.given inside.mark c.next_mark-mark.result inside.ended c.is_ended-ended.result inside.bytes.items bytes c.args.size inside.place 0 c.args.want c.args.last c.in_ok-front.front c.self.invariant.0.0 all c.in_ok-front.ensures.part c.in_ok-front.ensures.reading c.in_ok-front.ensures.within c.self.invariant.1.from bytes_are now_is c.is_ended-ended.ensures in (
+    let moves = moves-by inside.coder inside.known c.decode.new.self inside.front inside.gone inside.decoded inside.given inside.mark c.next_mark-mark.result inside.ended c.is_ended-ended.result inside.bytes.items bytes c.args.size inside.place 0 c.args.want c.args.last c.in_ok-front.front c.self.invariant.0.0 all c.in_ok-front.ensures.part c.in_ok-front.ensures.reading c.in_ok-front.ensures.within c.self.invariant.1.from bytes_are now_is c.is_ended-ended.ensures in (
       (
         c.self.invariant.0.0,
         keeps-decoded c.args.last _ _ c.self.invariant.0.0 moves c.self.invariant.0.1,
         walked-known inside.coder inside.known c.decode.new.self inside.gone inside.given inside.bytes.items inside.walked (ap (λ (known : KnownView). known.newline) c.in_ok-front.ensures.reading) c.self.invariant.0.2,
       ),
-      held-more inside.known c.decode.new.self _ inside.mark c.next_mark-mark.result (vec_len inside.bytes) inside.gone inside.decoded used inside.place inside.given _ _ c.self.invariant.1 c.in_ok-front.ensures.reading (omega (arith, c.in_ok-front.ensures.part.few, c.in_ok-front.ensures.part.chars)) within (c.next_mark-mark.ensures ∙ ap (λ (cr : Bool). mark_by inside.mark cr c.len.result (inside.decoded - inside.gone)) c.holds_cr.ensures) c.len.ensures refl,
+      held-more inside.known c.decode.new.self _ inside.mark c.next_mark-mark.result (vec_len inside.bytes) inside.gone inside.decoded used inside.place inside.front inside.given _ _ c.self.invariant.1 c.in_ok-front.ensures.reading (omega (arith, c.in_ok-front.ensures.part.few, c.in_ok-front.ensures.part.chars)) within (c.next_mark-mark.ensures ∙ ap (λ (cr : Bool). mark_by inside.mark cr c.len.result (inside.decoded - inside.gone)) c.holds_cr.ensures) c.len.ensures refl,
     )
 
 pub returns : goal.returns
@@ -57,6 +57,7 @@ returns c =
     let bytes = c.behind-bytes.result.now in
     let decoded = c.in_ok-front.front in
     let rest = drop (from + decoded.used) items in
+    let front = c.self.inside.front in
     let gone = c.self.inside.gone in
     let given = c.self.inside.given in
     let mark = c.self.inside.mark in
@@ -73,15 +74,15 @@ returns c =
     let now_is : now ≡ marked-by mark known (back_of gone from items) = c.next_mark-mark.ensures ∙ rw (c.holds_cr.ensures, c.len.ensures, back-length gone from items c.self.invariant.1.from (omega (arith, c.self.invariant.1.within, c.self.inside.bytes.ok))) refl in
     let seen : c.args.self.now.bytes ≡ bytes = ap (λ (held : HeldView). held.bytes) (sym c.self.view_is) ∙ sym bytes_are in
     let all : c.args.last ≡ true → c.args.size ≡ length bytes = λ last. c.requires.all last ∙ ap length seen in
-    let new : HeldView = view_of coder after gone (from + decoded.used) items given now ended_now (place + decoded.used) room in
-    let moves = moves-by coder known after gone from given mark now ended ended_now items bytes c.args.size place room c.args.want c.args.last decoded c.self.invariant.0.0 all part c.in_ok-front.ensures.reading within c.self.invariant.1.from bytes_are now_is c.is_ended-ended.ensures in
-    let shown : (result : Result (Option HeldStop) IoFault) → PartOutcome c.args.last c.args.size c.args.want (view_of coder known gone from items given mark ended place room) result new → PartOutcome c.args.last c.args.size c.args.want c.args.self.now result new = λ result outcome.
+    let new : HeldView = view_of coder after front gone (from + decoded.used) items given now ended_now (place + decoded.used) room in
+    let moves = moves-by coder known after front gone from given mark now ended ended_now items bytes c.args.size place room c.args.want c.args.last decoded c.self.invariant.0.0 all part c.in_ok-front.ensures.reading within c.self.invariant.1.from bytes_are now_is c.is_ended-ended.ensures in
+    let shown : (result : Result (Option HeldStop) IoFault) → PartOutcome c.args.last c.args.size c.args.want (view_of coder known front gone from items given mark ended place room) result new → PartOutcome c.args.last c.args.size c.args.want c.args.self.now result new = λ result outcome.
     subst (λ (old : HeldView). PartOutcome c.args.last c.args.size c.args.want old result new) c.self.view_is outcome in
     elim c.match-front.branch [
       | in-Refused w ↦ subst (λ (result : Result (Option HeldStop) IoFault). PartOutcome c.args.last c.args.size c.args.want c.args.self.now result new) (sym w.result-is)
           (shown (Ok (Some (stop.Refused (place + w.in-Refused.start) (place + w.in-Refused.end)))) (
             moves,
-            refuses-by coder after back_now given now ended_now bytes rest c.args.size place room c.args.want c.args.last decoded w.in-Refused.start w.in-Refused.end c.self.invariant.0.0 all part (part-all c.args.want _ _ decoded part (lacks-refused _ _ w.in-Refused.start w.in-Refused.end (sym part.stop ∙ w.in-Refused.is))) within rest_is w.in-Refused.is,
+            refuses-by coder after front back_now given now ended_now bytes rest c.args.size place room c.args.want c.args.last decoded w.in-Refused.start w.in-Refused.end c.self.invariant.0.0 all part (part-all c.args.want _ _ decoded part (lacks-refused _ _ w.in-Refused.start w.in-Refused.end (sym part.stop ∙ w.in-Refused.is))) within rest_is w.in-Refused.is,
           ))
       | in-Drained+then-is_all w ↦
           let is : c.args.size ≡ length bytes = w.if-is_all.true in
@@ -89,7 +90,7 @@ returns c =
           (shown (Ok (Some stop.Drained)) (
             moves,
             (let whole = all-of coder c.args.last c.args.want bytes c.args.size decoded is part in
-                drained-by coder after back_now given now ended_now bytes rest place room c.args.want c.args.last decoded whole (part-all c.args.want _ _ decoded whole (lacks-drained _ _ (sym part.stop ∙ w.in-Drained.is))) (omega (arith, within, length-take c.args.size bytes)) rest_is w.in-Drained.is),
+                drained-by coder after front back_now given now ended_now bytes rest place room c.args.want c.args.last decoded whole (part-all c.args.want _ _ decoded whole (lacks-drained _ _ (sym part.stop ∙ w.in-Drained.is))) (omega (arith, within, length-take c.args.size bytes)) rest_is w.in-Drained.is),
           ))
       | in-Drained+else-is_all w ↦ subst (λ (result : Result (Option HeldStop) IoFault). PartOutcome c.args.last c.args.size c.args.want c.args.self.now result new) (sym w.result-is)
           (shown (Ok None) (moves, λ is. absurd (w.if-is_all.false (is ∙ sym (ap length bytes_are)))))

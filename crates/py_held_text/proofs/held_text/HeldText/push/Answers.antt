@@ -14,4 +14,4 @@ invariant_of-self c =
     let total : vec_len now ≡ vec_len inside.bytes + length part = search rules in
     let whole : vec_len inside.bytes ≡ length inside.bytes.items = omega (arith, inside.bytes.ok) in
     let near : inside.place + vec_len now ≤ greatest_place + inside.decoded = omega (arith, c.requires.near, total, ap (λ (held : HeldView). held.place + length held.bytes) c.self.view_is, length-drop inside.decoded inside.bytes.items, whole, c.self.invariant.1.within) in
-    kept-pushed inside.coder inside.known inside.gone inside.decoded (vec_len inside.bytes) (vec_len now) inside.bytes.items now.items part inside.given inside.mark inside.ended inside.place inside.walked whole items_are total near c.self.invariant
+    kept-pushed inside.coder inside.known inside.front inside.gone inside.decoded (vec_len inside.bytes) (vec_len now) inside.bytes.items now.items part inside.given inside.mark inside.ended inside.place inside.walked whole items_are total near c.self.invariant

@@ -6,5 +6,5 @@ use Rattle.py_held_text.proofs.held_text.HeldText.read_anew.Goals as goal
 pub returns-clause-anew : goal.returns-clause-anew
 returns-clause-anew c =
     let inside = c.self.inside in
-    anew-by inside.coder c.args.coder inside.known c.clear.new.self c.args.newline inside.bytes.items inside.gone inside.decoded inside.given inside.place (vec_capacity inside.bytes - vec_len inside.bytes) inside.mark inside.ended c.self.invariant.1.from (omega (arith, c.self.invariant.1.within, inside.bytes.ok)) c.clear.ensures
+    anew-by inside.coder c.args.coder inside.known c.clear.new.self c.args.newline inside.bytes.items inside.front inside.gone inside.decoded inside.given inside.place (vec_capacity inside.bytes - vec_len inside.bytes) inside.mark inside.ended c.self.invariant.1.from (omega (arith, c.self.invariant.1.within, inside.bytes.ok)) c.clear.ensures
     ∙ ap (held_anew c.args.coder c.args.newline) c.self.view_is

@@ -5,4 +5,4 @@ use Rattle.py_held_text.proofs.held_text.HeldText.shrink.Goals as goal
 pub invariant_of-self : goal.invariant_of-self
 invariant_of-self c =
     let inside = c.self-then-self-len.inside in
-    kept-items inside.coder inside.known inside.gone inside.decoded (vec_len inside.bytes) (vec_len c.trim.new.bytes) inside.bytes.items c.trim.new.bytes.items inside.given inside.mark inside.ended inside.place inside.walked c.trim.ensures.items c.trim.ensures.len c.self-then-self-len.invariant
+    kept-items inside.coder inside.known inside.front inside.gone inside.decoded (vec_len inside.bytes) (vec_len c.trim.new.bytes) inside.bytes.items c.trim.new.bytes.items inside.given inside.mark inside.ended inside.place inside.walked c.trim.ensures.items c.trim.ensures.len c.self-then-self-len.invariant

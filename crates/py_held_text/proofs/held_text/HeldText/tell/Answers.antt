@@ -15,7 +15,7 @@ returns-clause-told c =
 pub returns-clause-sure : goal.returns-clause-sure
 returns-clause-sure c =
     let inside = c.self.inside in
-    let held : HeldView = view_of inside.coder inside.known inside.gone inside.decoded inside.bytes.items inside.given inside.mark inside.ended inside.place 0 in
+    let held : HeldView = view_of inside.coder inside.known inside.front inside.gone inside.decoded inside.bytes.items inside.given inside.mark inside.ended inside.place 0 in
     subst (λ (own : HeldView). own.ended ≡ false → own.given ≤ length (surely_given own.encoding own.handler own.newline false (whole_of own))) c.self.view_is
     (λ going. sure-told held refl (c.self.invariant.0.1 going))
 

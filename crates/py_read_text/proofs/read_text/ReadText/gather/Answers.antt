@@ -1,8 +1,8 @@
 use Rattle.std.proofs.Common.{sym, ap, ◌∙◌, subst, false}
 use Rattle.std.proofs.lemmas.Result.{err_from_is_err_and}
 use Rattle.py_read_text.specs.Knowing.{TextView}
-use Rattle.py_read_text.specs.Reading.{IsAtEnd, Reads}
-use Rattle.py_read_text.proofs.Fetching.{reads_on}
+use Rattle.py_read_text.specs.Reading.{IsAtEnd, Calls}
+use Rattle.py_read_text.proofs.Fetching.{calls_on}
 use Rattle.py_read_text.proofs.Ahead.{needs_at}
 use Rattle.py_read_text.proofs.Gathering.{looked, fails_there, gathers_more, holds_looked, holds_ended, asks_some, failed, waited, ended}
 use Rattle.py_read_text.proofs.read_text.ReadText.gather.Goals as goal
@@ -10,7 +10,7 @@ use Rattle.py_read_text.proofs.read_text.ReadText.gather.Goals as goal
 pub returns-in-Some-clause-outcome : goal.returns-in-Some-clause-outcome
 returns-in-Some-clause-outcome g c =
     let at = rw c.in-Some.is at c.in_ok-stop.ensures.outcome in
-    let reads = subst (λ (view : TextView). Reads c.args.self.now.buffer false false view.buffer) (sym c.self-in-loop-stop.view_is) c.loop-stop.invariant.reads in
+    let reads = subst (λ (view : TextView). Calls c.args.self.now.buffer false false view.buffer) (sym c.self-in-loop-stop.view_is) c.loop-stop.invariant.reads in
     looked c.args.self.now _ c.args.wanted c.in-Some.stop reads at.0 at.1
 
 pub loop-stop-preserved : goal.loop-stop-preserved
@@ -22,7 +22,7 @@ loop-stop-preserved g c =
 pub invariant_of-self-in-End : goal.invariant_of-self-in-End
 invariant_of-self-in-End g c =
     let came = rw c.in-End.is at c.in_ok-fetch.ensures.outcome in
-    holds_ended _ _ _ _ _ _ (subst (λ (view : TextView). IsAtEnd view.buffer) (sym c.self-in-loop-stop-2.view_is) came.1) c.look_at_end.ensures.follows c.self-in-loop-stop-2.invariant
+    holds_ended _ _ _ _ _ _ _ _ (subst (λ (view : TextView). IsAtEnd view.buffer) (sym c.self-in-loop-stop-2.view_is) came.1) c.look_at_end.ensures.follows c.self-in-loop-stop-2.invariant
 
 pub returns-in-End-clause-nothing : goal.returns-in-End-clause-nothing
 returns-in-End-clause-nothing g c =
@@ -37,21 +37,21 @@ returns-in-Waits-clause-nothing g c =
 pub returns-in_err-fetch-clause-outcome : goal.returns-in_err-fetch-clause-outcome
 returns-in_err-fetch-clause-outcome g c =
     let left = err_from_is_err_and c.from_residual-in_err-fetch.result c.from_residual-in_err-fetch.ensures.1 in
-    let reads = subst (λ (view : TextView). Reads c.args.self.now.buffer false false view.buffer) (sym c.self-in-loop-stop.view_is) c.loop-stop.invariant.reads in
+    let reads = subst (λ (view : TextView). Calls c.args.self.now.buffer false false view.buffer) (sym c.self-in-loop-stop.view_is) c.loop-stop.invariant.reads in
     rw (left.1, left.2) (failed c.args.self.now _ c.fetch.new.self c.args.wanted c.in_err-fetch.field-0.0 reads c.in_err-fetch.ensures.outcome)
 
 pub returns-in-End-clause-outcome : goal.returns-in-End-clause-outcome
 returns-in-End-clause-outcome g c =
     let came = rw c.in-End.is at c.in_ok-fetch.ensures.outcome in
-    let reads = subst (λ (view : TextView). Reads c.args.self.now.buffer false false view.buffer) (sym c.self-in-loop-stop.view_is) c.loop-stop.invariant.reads in
-    let both = subst (λ (view : TextView). Reads c.args.self.now.buffer false false view.buffer) (sym c.self-in-loop-stop-2.view_is) (reads_on _ _ _ false false reads came.0.reads) in
+    let reads = subst (λ (view : TextView). Calls c.args.self.now.buffer false false view.buffer) (sym c.self-in-loop-stop.view_is) c.loop-stop.invariant.reads in
+    let both = subst (λ (view : TextView). Calls c.args.self.now.buffer false false view.buffer) (sym c.self-in-loop-stop-2.view_is) (calls_on _ _ _ false false reads came.0.reads) in
     ended c.args.self.now _ c.args.wanted c.look_at_end.result both c.look_at_end.ensures.outcome c.look_at_end.ensures.ready (subst (λ (view : TextView). IsAtEnd view.buffer) (sym c.self-in-loop-stop-2.view_is) came.1)
 
 pub returns-in-Waits-clause-outcome : goal.returns-in-Waits-clause-outcome
 returns-in-Waits-clause-outcome g c =
     let looked = rw c.in_default.is at c.in_ok-stop.ensures.outcome in
     let came = rw c.in-Waits.is at c.in_ok-fetch.ensures.outcome in
-    let reads = subst (λ (view : TextView). Reads c.args.self.now.buffer false false view.buffer) (sym c.self-in-loop-stop.view_is) c.loop-stop.invariant.reads in
+    let reads = subst (λ (view : TextView). Calls c.args.self.now.buffer false false view.buffer) (sym c.self-in-loop-stop.view_is) c.loop-stop.invariant.reads in
     waited c.args.self.now _ c.fetch.new.self c.args.wanted reads looked came
 
 pub returns-in-Some-clause-needs : goal.returns-in-Some-clause-needs
@@ -79,10 +79,10 @@ returns-in_err-fetch-clause-nothing g c =
     λ none. asks_some c.args.wanted _ _ _ looked.0 none
 
 pub invariant_of-self : goal.invariant_of-self
-invariant_of-self g c = holds_looked _ _ _ _ _ _ c.look.ensures.follows c.self-in-loop-stop.invariant
+invariant_of-self g c = holds_looked _ _ _ _ _ _ _ _ c.look.ensures.follows c.self-in-loop-stop.invariant
 
 pub invariant_of-self-in-Some : goal.invariant_of-self-in-Some
-invariant_of-self-in-Some g c = holds_looked _ _ _ _ _ _ c.look.ensures.follows c.self-in-loop-stop.invariant
+invariant_of-self-in-Some g c = holds_looked _ _ _ _ _ _ _ _ c.look.ensures.follows c.self-in-loop-stop.invariant
 
 pub invariant_of-self-in-loop-stop : goal.invariant_of-self-in-loop-stop
-invariant_of-self-in-loop-stop g c = holds_looked _ _ _ _ _ _ c.look.ensures.follows c.self-in-loop-stop.invariant
+invariant_of-self-in-loop-stop g c = holds_looked _ _ _ _ _ _ _ _ c.look.ensures.follows c.self-in-loop-stop.invariant
