@@ -269,6 +269,10 @@ impl<R: RawStream, K: BufferedKind> BufferedStream for BufferedOver<R, K> {
         BufferedStream::seekable(&self.inner)
     }
 
+    fn appending(&self) -> bool {
+        BufferedStream::appending(&self.inner)
+    }
+
     fn closed(&self) -> bool {
         BufferedStream::closed(&self.inner)
     }

@@ -90,6 +90,10 @@ impl<R: RawStream> BufferedStream for Buffered<R> {
         Buffered::seekable(self)
     }
 
+    fn appending(&self) -> bool {
+        self.access.appends()
+    }
+
     fn closed(&self) -> bool {
         matches!(Buffered::life(self), Life::Closed)
     }

@@ -358,11 +358,18 @@ pub record FailsAtEnd (before after : Buffer) : Type 0 where
   pub life_is : after.life ≡ life.Failed
   pub cause : Rose before.raw.faults after.raw.faults
 
+-- asking for the end ran out of memory, of a stream that takes some: all is as it was, and the raw of a live stream stands where the
+-- stream counts
+pub record StarvesAtEnd (before after : Buffer) : Type 0 where
+  pub takes : IsTrue before.raw.takes_memory
+  pub same : after ≡ record before { short = false }
+  pub stands : after.life ≡ life.Live → StandsAsCounted after
+
 -- an accepted `end`: the end, a fault of the raw, or out of memory, of a stream that takes some
 abbrev pub EndsAt : Buffer → Result ℕ IoFault → Buffer → Type 0
 EndsAt before (Ok end) after = SaysEnd before end after
 EndsAt before (Err fault.RawFault) after = FailsAtEnd before after
-EndsAt before (Err fault.NoMemory) after = IsTrue before.raw.takes_memory × AsksForEnd before after × (after.life ≡ before.life)
+EndsAt before (Err fault.NoMemory) after = StarvesAtEnd before after
 EndsAt before (Err why) after = ⊥
 
 abbrev pub EndsBy : Option IoFault → Buffer → Result ℕ IoFault → Buffer → Type 0

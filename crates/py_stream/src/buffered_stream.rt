@@ -61,6 +61,10 @@ pub trait BufferedStream {
         ensures says { result ≡ (shows self.now).can.seekable }
         ensures moves { (shows self.now).can.readable ≡ true → (shows self.now).can.writable ≡ true → ((shows self.now).can.seekable ≡ true) × ((shows self.now).can.appending ≡ false) };
 
+    /// Whether each write goes to the end, wherever the place is: such a stream isn't moved, though it may tell its place.
+    fn appending(&self) -> bool
+        ensures { result ≡ (shows self.now).can.appending };
+
     /// Whether the stream is closed.
     fn closed(&self) -> bool
         ensures { result ≡ is_closed (shows self.now).life };

@@ -105,6 +105,11 @@ impl BufferedStream for BytesIO {
         BytesIO::seekable(self)
     }
 
+    fn appending(&self) -> bool {
+        let _ = &self.bytes;
+        false
+    }
+
     fn closed(&self) -> bool {
         BytesIO::closed(self)
     }
