@@ -54,8 +54,8 @@ fn counted_front<L: Ledger>(
     )
 }
 
-/// The characters that some bytes are by themselves, behind which none come: those up to a range that the handler refuses, if
-/// one does. `NoMemory` when out of memory.
+/// The characters that at most four bytes are by themselves, behind which none come: those up to a range that the handler refuses,
+/// if one does. `NoMemory` when out of memory.
 pub fn decoded_alone(alloc: Global, coder: Coder, bytes: &[u8]) -> Result<String, IoFault>
     requires reads { reads_texts coder.errors ≡ true }
     requires few { length bytes.now ≤ 4 }

@@ -114,7 +114,7 @@ impl KnownText {
         self.cr = false;
     }
 
-    /// Has a text known, but for a front of it, in place of all that was.
+    /// Has a text known, but for a front of it, in place of all that was known, and holds no CR.
     pub fn put(&mut self, text: String, skipped: TextFront)
         requires { IsFrontOf (text_of text) skipped }
         ensures { self.new ≡ record self.old { characters = drop skipped.chars (text_of text); cr = false } }

@@ -133,7 +133,8 @@ LeftStarved file (SeekText bytes whence) after =
     (after ≡ file) ⊎ (IsTrue (skips sought) × (after ≡ placed file (start_place sought)))
 LeftStarved file call after = after ≡ file
 
--- running out of memory leaves all as before, or a text that failed in the middle; the answer to a question for a name wants memory too
+-- running out of memory leaves the text as it was, or where a seek may leave it, or failed in the middle; the answer to a question for a
+-- name wants memory too
 abbrev pub Starved : TextFile → TextFileCall → TextFile → Type 0
 Starved file call after =
     (IsTrue (reaches_raw file call || tells_name call) × LeftStarved file call after) ⊎ (IsTrue (reaches_raw file call) × FailsMidway file call after)

@@ -31,6 +31,7 @@ pub use laws::{
 };
 pub use plain_changes::PlainChanges;
 pub use plain_place::{PlainFront, PlainPlace, PlainSettings, left};
+pub use plain_seek::seek_fault;
 pub use plain_text::PlainText;
 pub use plain_write::{laid, written};
 pub use text_cookie::TextIOCookie;

@@ -58,8 +58,8 @@ fn argument_fault(bytes: &[u8], cookie: &[u8], whence: i64) -> Option<IoFault>
     }
 }
 
-/// What refuses a seek of a live text.
-pub(crate) fn seek_fault(bytes: &[u8], cookie: &[u8], whence: i64) -> Option<IoFault>
+/// What refuses a seek of a live text: a cookie other than zeros behind whence 1 or 2, an unknown whence, a cookie that is invalid.
+pub fn seek_fault(bytes: &[u8], cookie: &[u8], whence: i64) -> Option<IoFault>
     ensures { (settings : PlainSettings) (place : PlainPlace) → result
         ≡ sought_refusal (text_at bytes.now settings place) cookie.now whence }
 {

@@ -54,7 +54,8 @@ fn count_in_item(encoding: Encoding, handler: Handler, bytes: &[u8], last: bool)
 }
 
 /// Whether a cookie that skips characters fits the bytes that lie at its start, as many as it feeds, or fewer where the text ends
-/// before: they are one item, and what is skipped lies within its characters. They are the same item where nothing comes behind them.
+/// before: they are one item, and what is skipped lies within its characters. Decoded as the last bytes they are one item too, with more
+/// characters than are skipped.
 pub fn restores(encoding: Encoding, handler: Handler, cookie: &TextIOCookie, fed: &[u8]) -> bool
     requires { reads_texts handler ≡ true }
     ensures restorable { (file : TextFile) → FeedsOf encoding handler (cookie_shown cookie.now) fed.now file
