@@ -23,7 +23,7 @@ use Rattle.py_stream.specs.Answers as stream
 use Rattle.py_stream.specs.Buffer.{Buffer, flat_of, size_shown, refused_here, parts_when_closed, IsClosedWithRaw, AnswersAsBuffer}
 use Rattle.py_read_text.specs.Knowing.{TextView, over_of, state_of, shown_file, place_of}
 use Rattle.py_read_text.specs.Owing.{behind_own, Starves, StopsOwing, may_close, KeepsOpen, Closes}
-use Rattle.py_read_text.specs.Answers.{IsReplyTo, IsComplete, IsShort, LifeMoves, WantsMemory, TextPasses, Answers}
+use Rattle.py_read_text.specs.Answers.{IsReplyTo, IsComplete, IsShort, LifeMoves, WantsMemory, IsPassedOn, TextPasses, Answers}
 use Rattle.py_read_text.specs.Reading.{KeepsPlace}
 use Rattle.py_read_text.proofs.Results.{same_file}
 use Rattle.py_read_text.proofs.Placing.{flush_flat, flush_place, close_flat, close_place, text_flushed, text_closed}
@@ -94,6 +94,10 @@ whole_reply (Err other) = refl
 pub all_passed : (buffer : Buffer) → buffer.owed.bytes ≡ [] → buffer.raw.bytes ≡ (flat_of buffer).bytes
 all_passed buffer none = sym (ap (λ (owed : List ℕ). lay buffer.raw.bytes buffer.owed.place owed) none)
 
+-- a text whose buffer owes nothing passed all on
+pub passed_on : (text : TextView) (short : Bool) → text.buffer.owed.bytes ≡ [] → IsPassedOn (state_of text short)
+passed_on text short none = record { own = refl; none = none; holds = λ told. all_passed text.buffer none }
+
 waits_so : (writes : Bool) → IsTrue (writes && true) → IsTrue writes
 waits_so true is = refl
 waits_so false is = absurd (cc)
@@ -147,7 +151,7 @@ flush_stops old after (Err other) answers is = absurd (cc)
 flush_stops old after (Ok done) answers is = absurd (cc)
 
 flush_passes : (old : TextView) (after : Buffer) (result : Result (Unit {0}) IoFault) → AnswersAsBuffer old.buffer binary.Flush (done_reply result) after → TextPasses (state_of old false) Flush (done_reply result) (state_of (with_buffer old after) (says_wait (done_reply result)))
-flush_passes old after (Ok done) answers = record { own = refl; none = answers.passes.0.none; holds = λ told. all_passed after answers.passes.0.none }
+flush_passes old after (Ok done) answers = passed_on (with_buffer old after) false answers.passes.0.none
 flush_passes old after (Err why) answers = tt
 
 flush_told : (old : TextView) (after : Buffer) (result : Result (Unit {0}) IoFault) → old.buffer.life ≡ life.Live → old.buffer.exported ≡ false → AnswersAsBuffer old.buffer binary.Flush (done_reply result) after → (flat_of after).bytes ≡ (flat_of old.buffer).bytes → TextFileStep (shown_file old) Flush (done_reply result) (says_wait (done_reply result)) (says_fault (done_reply result)) (shown_file (with_buffer old after))
@@ -278,7 +282,7 @@ close_stops old after (Err other) answers is = absurd (cc)
 close_stops old after (Ok done) answers is = absurd (cc)
 
 close_passes : (old : TextView) (after : Buffer) (result : Result (Unit {0}) IoFault) → old.buffer.life ≡ life.Live → AnswersAsBuffer old.buffer binary.Close (done_reply result) after → TextPasses (state_of old false) Close (done_reply result) (state_of (with_buffer old after) (says_wait (done_reply result)))
-close_passes old after (Ok done) live answers = λ lives. record { own = refl; none = (answers.passes live).none; holds = λ told. all_passed after (answers.passes live).none }
+close_passes old after (Ok done) live answers = λ lives. passed_on (with_buffer old after) false (answers.passes live).none
 close_passes old after (Err why) live answers = tt
 
 closed_file : (old : TextView) (after : Buffer) → (flat_of after).bytes ≡ (flat_of old.buffer).bytes → after.can ≡ old.buffer.can → after.life ≡ life.Closed → shown_file (with_buffer old after) ≡ in_life (shown_file old) life.Closed

@@ -172,9 +172,9 @@ fed_starved before after encoding handler goal why bytes is came = absurd came
 
 -- it didn't go there
 pub lands_not : (before after : Buffer) (place : ℕ) (why : IoFault) → GoOutcome before place (Err why) after → LandsBack before why after
-lands_not before after place (fault.WouldBlock taken) gone = record { calls = (gone.0, gone.2); place = gone.1; other = λ is. absurd (cc) }
-lands_not before after place fault.RawFault gone = record { calls = gone.0; place = gone.1; other = λ is. absurd (cc) }
-lands_not before after place fault.NoMemory gone = record { calls = gone.0; place = gone.1; other = λ is. absurd (cc) }
+lands_not before after place (fault.WouldBlock taken) gone = record { calls = (gone.0, gone.2); place = gone.1; other = λ is. absurd (cc); owed = λ is. gone.3 }
+lands_not before after place fault.RawFault gone = record { calls = gone.0; place = gone.1; other = λ is. absurd (cc); owed = λ is. absurd (cc) }
+lands_not before after place fault.NoMemory gone = record { calls = gone.0; place = gone.1; other = λ is. absurd (cc); owed = λ is. absurd (cc) }
 lands_not before after place other gone = absurd gone
 
 -- Out of memory, on the way back.
@@ -190,6 +190,7 @@ lands_back before mid read after encoding handler goal bytes (landing.Back fault
   calls = calls_on before read after false false (calls_on before mid read false false gone.0 feeds.calls) back.0;
   place = back.1;
   other = λ is. absurd (cc);
+  owed = λ is. absurd (cc);
 }
 lands_back before mid read after encoding handler goal bytes (landing.Start why) gone feeds back = by_why why back
   where

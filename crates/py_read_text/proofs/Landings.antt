@@ -1,5 +1,5 @@
 -- A seek of a text, as a step of the model and as a call of the one clause.
-use Rattle.std.proofs.Common.{◌≡◌, ℕ, ℤ, inl, inr, ◌⊎◌, ◌&&◌, ◌||◌, Bool, true, false, not, is_none, IsTrue, List, [], None, Option, Result, Ok, Err, if◌then◌else◌, refl, sym, ap, ◌∙◌, subst, arith}
+use Rattle.std.proofs.Common.{◌≡◌, ℕ, ℤ, inl, inr, ◌⊎◌, ◌&&◌, ◌||◌, Bool, true, false, not, is_none, IsTrue, List, [], None, Option, Result, Ok, Err, if◌then◌else◌, refl, sym, ap, ◌∙◌, subst, arith, append-nil}
 use Rattle.py_flat.specs.declared.fault.IoFault.{IoFault}
 use Rattle.py_flat.specs.declared.fault.IoFault.TheVariants as fault
 use Rattle.py_flat.specs.declared.life.Life.TheVariants as life
@@ -23,18 +23,19 @@ use Rattle.py_stream.specs.Kinds.{says_wait, says_fault}
 use Rattle.py_stream.specs.Buffer.{WhereShown, flat_of}
 use Rattle.py_read_text.specs.Knowing.{TextView, place_of, over_of, state_of, shown_file}
 use Rattle.py_read_text.specs.Owing.{IsJoined, Starves}
-use Rattle.py_read_text.specs.Answers.{refused_here, IsReplyTo, IsComplete, IsShort, LifeMoves, SeeksBy, PutAtStart, TextSeeks, Answers}
-use Rattle.py_read_text.specs.Seeking.{Seeks, StandsAtStart, SeeksOver, SeekOutcome, sought_reply}
+use Rattle.py_read_text.specs.Answers.{refused_here, IsReplyTo, IsComplete, IsShort, LifeMoves, SeeksBy, PutAtStart, TextSeeks, TextPasses, Answers}
+use Rattle.py_read_text.specs.Seeking.{Seeks, StandsAtStart, StaysOwing, SeeksOver, SeekOutcome, sought_reply}
 use Rattle.py_read_text.proofs.Owing.{passes_behind, owes_none, open_called}
 use Rattle.py_read_text.proofs.Fronts.{lays_owed}
+use Rattle.py_read_text.proofs.Calling.{passed_on}
 
 -- The steps.
 
 -- an accepted seek of a live text, by a cookie
-record Goes (file : TextFile) (sought : List ℕ) (whence : ℤ) (goal : Cookie) : Type 0 where
-  live : file.life ≡ life.Live
-  accepted : refusal file (SeekText sought whence) ≡ None
-  is : sought_cookie file sought whence ≡ goal
+pub record Goes (file : TextFile) (sought : List ℕ) (whence : ℤ) (goal : Cookie) : Type 0 where
+  pub live : file.life ≡ life.Live
+  pub accepted : refusal file (SeekText sought whence) ≡ None
+  pub is : sought_cookie file sought whence ≡ goal
 
 landed_step : (file after : TextFile) (sought : List ℕ) (whence : ℤ) (goal : Cookie) (reply : FileReply) → Goes file sought whence goal → (reply, after) ≡ after_landing file goal (lands file goal) → TextFileStep file (SeekText sought whence) reply false false after
 landed_step file after sought whence goal reply goes exact =
@@ -68,16 +69,16 @@ unfit_step file after sought whence goal goes skip restore is =
     (ap (λ (own : TextFile). let outcome : FileReply × TextFile = (Refused fault.CannotRestore, own) in outcome) is ∙ ap (after_landing file goal) (sym (landed_at file goal true false skip restore)))
 
 -- it may go to the raw
-works_so : (file : TextFile) (sought : List ℕ) (whence : ℤ) (goal : Cookie) → Goes file sought whence goal → IsTrue (does_work file (SeekText sought whence))
+pub works_so : (file : TextFile) (sought : List ℕ) (whence : ℤ) (goal : Cookie) → Goes file sought whence goal → IsTrue (does_work file (SeekText sought whence))
 works_so file sought whence goal goes =
     ap (λ (current : Life). is_live current && (is_none (refusal file (SeekText sought whence)) && true)) goes.live
     ∙ ap (λ (why : Option IoFault). is_none why && true) goes.accepted
 
-reaches_so : (file : TextFile) (sought : List ℕ) (whence : ℤ) (goal : Cookie) → Goes file sought whence goal → IsTrue (reaches_raw file (SeekText sought whence))
+pub reaches_so : (file : TextFile) (sought : List ℕ) (whence : ℤ) (goal : Cookie) → Goes file sought whence goal → IsTrue (reaches_raw file (SeekText sought whence))
 reaches_so file sought whence goal goes = ap (λ (works : Bool). works || asks_end file (SeekText sought whence)) (works_so file sought whence goal goes)
 
 -- as it was, or at the start of a cookie that skips
-abbrev LeftAt : TextFile → Cookie → TextFile → Type 0
+abbrev pub LeftAt : TextFile → Cookie → TextFile → Type 0
 LeftAt file goal after = (after ≡ file) ⊎ (IsTrue (skips goal) × (after ≡ placed file (start_place goal)))
 
 left_by : (file after : TextFile) (sought : List ℕ) (whence : ℤ) (goal : Cookie) → sought_cookie file sought whence ≡ goal → LeftAt file goal after → LeftAt file (sought_cookie file sought whence) after
@@ -87,15 +88,15 @@ waits_left : (file after : TextFile) (sought : List ℕ) (whence : ℤ) → Left
 waits_left file after sought whence (inl same) = inl (refl, same)
 waits_left file after sought whence (inr start) = inr (start.0, refl, start.1)
 
-wait_step : (file after : TextFile) (sought : List ℕ) (whence : ℤ) (goal : Cookie) (taken : ℕ) → Goes file sought whence goal → taken ≡ 0 → LeftAt file goal after → TextFileStep file (SeekText sought whence) (Refused (fault.WouldBlock taken)) true false after
+pub wait_step : (file after : TextFile) (sought : List ℕ) (whence : ℤ) (goal : Cookie) (taken : ℕ) → Goes file sought whence goal → taken ≡ 0 → LeftAt file goal after → TextFileStep file (SeekText sought whence) (Refused (fault.WouldBlock taken)) true false after
 wait_step file after sought whence goal taken goes none left =
     subst (λ (count : ℕ). TextFileStep file (SeekText sought whence) (Refused (fault.WouldBlock count)) true false after) (sym none)
     (waited_for refl (works_so file sought whence goal goes, waits_left file after sought whence (left_by file after sought whence goal goes.is left)))
 
-starve_step : (file after : TextFile) (sought : List ℕ) (whence : ℤ) (goal : Cookie) → Goes file sought whence goal → LeftAt file goal after → TextFileStep file (SeekText sought whence) (Refused fault.NoMemory) false false after
+pub starve_step : (file after : TextFile) (sought : List ℕ) (whence : ℤ) (goal : Cookie) → Goes file sought whence goal → LeftAt file goal after → TextFileStep file (SeekText sought whence) (Refused fault.NoMemory) false false after
 starve_step file after sought whence goal goes left = out_of_memory refl (inl (ap (λ (reaches : Bool). reaches || false) (reaches_so file sought whence goal goes), left_by file after sought whence goal goes.is left))
 
-fault_step : (file after : TextFile) (sought : List ℕ) (whence : ℤ) (goal : Cookie) → Goes file sought whence goal → Fails file life.Failed file.bytes after → TextFileStep file (SeekText sought whence) (Refused fault.RawFault) false true after
+pub fault_step : (file after : TextFile) (sought : List ℕ) (whence : ℤ) (goal : Cookie) → Goes file sought whence goal → Fails file life.Failed file.bytes after → TextFileStep file (SeekText sought whence) (Refused fault.RawFault) false true after
 fault_step file after sought whence goal goes fails = raw_faulted refl refl (reaches_so file sought whence goal goes, (0, omega arith, fails))
 
 -- What a seek leaves of the text.
@@ -108,7 +109,7 @@ moved_file old new waited faulted place over current there told =
     ∙ (ap (λ (own : TextSettings). let file : TextFile = record { bytes = (flat_of old.buffer).bytes; place = place; can = old.buffer.can; settings = own; life = new.buffer.life } in file) over.settings
     ∙ ap (λ (own : Life). let file : TextFile = record { bytes = (flat_of old.buffer).bytes; place = place; can = old.buffer.can; settings = old.settings; life = own } in file) current)))
 
-abbrev StaysOrStarts : TextView → Cookie → TextView → Type 0
+abbrev pub StaysOrStarts : TextView → Cookie → TextView → Type 0
 StaysOrStarts old goal new = (place_of new ≡ place_of old) ⊎ StandsAtStart goal new
 
 left_file : (old new : TextView) (waited faulted : Bool) (goal : Cookie) → SeeksOver old waited faulted new → new.buffer.life ≡ old.buffer.life → StaysOrStarts old goal new → WhereShown old.buffer (LeftAt (shown_file old) goal (shown_file new))
@@ -122,6 +123,15 @@ left_at : (old new : TextView) (sought : List ℕ) (whence : ℤ) (goal : Cookie
 left_at old new sought whence goal by (inl same) = inl same
 left_at old new sought whence goal by (inr start) = inr (put_at_start old new sought whence goal by start)
 
+-- it stayed only while something was owed
+while_owing : (old new : TextView) (goal : Cookie) → StaysOwing old new ⊎ StandsAtStart goal new → StaysOrStarts old goal new
+while_owing old new goal (inl stays) = inl stays.0
+while_owing old new goal (inr start) = inr start
+
+waited_at : (old new : TextView) (sought : List ℕ) (whence : ℤ) (goal : Cookie) (taken : ℕ) → SeeksBy (over_of old) sought whence goal → StaysOwing old new ⊎ StandsAtStart goal new → TextSeeks (SeekText sought whence) (Refused (fault.WouldBlock taken)) (over_of old) (place_of new)
+waited_at old new sought whence goal taken by (inl stays) = inl (stays.0, λ none. stays.1 (sym (append-nil old.buffer.owed.bytes) ∙ none))
+waited_at old new sought whence goal taken by (inr start) = inr (put_at_start old new sought whence goal by start)
+
 -- the parts of a seek that hang on what it answers
 record SeekParts (old : TextView) (sought : List ℕ) (whence : ℤ) (waited : Bool) (reply : FileReply) (new : TextView) : Type 0 where
   over : SeeksOver old waited (says_fault reply) new
@@ -131,9 +141,10 @@ record SeekParts (old : TextView) (sought : List ℕ) (whence : ℤ) (waited : B
   seeks : TextSeeks (SeekText sought whence) reply (over_of old) (place_of new)
   starves : Starves (over_of old) (SeekText sought whence) reply (over_of new)
   complete : waited ≡ false → says_fault reply ≡ false → IsComplete (SeekText sought whence) reply waited
+  passes : TextPasses (state_of old false) (SeekText sought whence) reply (state_of new waited)
   told : WhereShown old.buffer (TextFileStep (shown_file old) (SeekText sought whence) reply waited (says_fault reply) (shown_file new))
 
-goes_by : (old : TextView) (sought : List ℕ) (whence : ℤ) (goal : Cookie) → old.buffer.life ≡ life.Live → Seeks old sought whence goal → WhereShown old.buffer (Goes (shown_file old) sought whence goal)
+goes_by : (old : TextView) (sought : List ℕ) (whence : ℤ) (goal : Cookie) → old.buffer.life ≡ life.Live → Seeks (state_of old false) sought whence goal → WhereShown old.buffer (Goes (shown_file old) sought whence goal)
 goes_by old sought whence goal live seeks told = record { live = live; accepted = (seeks.told told).0; is = (seeks.told told).1 }
 
 starved_so : (old new : TextView) (sought : List ℕ) (whence : ℤ) (goal : Cookie) → SeeksOver old false false new → (place_of new ≡ place_of old) ⊎ (IsTrue old.buffer.raw.takes_memory × StandsAtStart goal new) → Starves (over_of old) (SeekText sought whence) (Refused fault.NoMemory) (over_of new)
@@ -144,23 +155,24 @@ starved_at : (old new : TextView) (sought : List ℕ) (whence : ℤ) (goal : Coo
 starved_at old new sought whence goal by (inl same) = inl same
 starved_at old new sought whence goal by (inr start) = inr (start.0, put_at_start old new sought whence goal by start.1)
 
-without_memory : (old new : TextView) (goal : Cookie) → (place_of new ≡ place_of old) ⊎ (IsTrue old.buffer.raw.takes_memory × StandsAtStart goal new) → StaysOrStarts old goal new
+pub without_memory : (old new : TextView) (goal : Cookie) → (place_of new ≡ place_of old) ⊎ (IsTrue old.buffer.raw.takes_memory × StandsAtStart goal new) → StaysOrStarts old goal new
 without_memory old new goal (inl same) = inl same
 without_memory old new goal (inr start) = inr start.1
 
 fails_so : (old new : TextView) → SeeksOver old false true new → WhereShown old.buffer (Fails (shown_file old) life.Failed (shown_file old).bytes (shown_file new))
 fails_so old new over told = record { life_is = over.calls.life_is; bytes_are = over.calls.bytes told; can = over.calls.keeps.can; settings = over.settings }
 
-parts_of : (old new : TextView) (sought : List ℕ) (whence : ℤ) (goal : Cookie) (result : Result (Unit {0}) IoFault) → old.buffer.life ≡ life.Live → Seeks old sought whence goal → SeekOutcome old goal result new → SeekParts old sought whence (says_wait (sought_reply goal result)) (sought_reply goal result) new
+parts_of : (old new : TextView) (sought : List ℕ) (whence : ℤ) (goal : Cookie) (result : Result (Unit {0}) IoFault) → old.buffer.life ≡ life.Live → Seeks (state_of old false) sought whence goal → SeekOutcome old goal result new → SeekParts old sought whence (says_wait (sought_reply goal result)) (sought_reply goal result) new
 parts_of old new sought whence goal (Ok done) live seeks outcome = record {
   over = outcome.0;
   shorts = refl;
   answer = λ writes. tt;
   lives = λ writes. outcome.0.calls.life_is;
-  seeks = record { goal = goal; by = seeks.by; says = refl; place = outcome.1 };
+  seeks = record { goal = goal; by = seeks.by; says = refl; place = outcome.1; inside = outcome.3 };
   starves = tt;
   complete = λ calm sound. record { answer = tt; whole = refl };
-  told = λ told. put_step (shown_file old) (shown_file new) sought whence goal (goes_by old sought whence goal live seeks told) (outcome.2 told) (moved_file old new false false (if skips goal then place_inside goal else start_place goal) outcome.0 outcome.0.calls.life_is outcome.1 told);
+  passes = passed_on new false outcome.2;
+  told = λ told. put_step (shown_file old) (shown_file new) sought whence goal (goes_by old sought whence goal live seeks told) (outcome.4 told) (moved_file old new false false (if skips goal then place_inside goal else start_place goal) outcome.0 outcome.0.calls.life_is outcome.1 told);
 }
 parts_of old new sought whence goal (Err fault.CannotRestore) live seeks outcome = record {
   over = outcome.0;
@@ -170,17 +182,19 @@ parts_of old new sought whence goal (Err fault.CannotRestore) live seeks outcome
   seeks = put_at_start old new sought whence goal seeks.by outcome.1;
   starves = tt;
   complete = λ calm sound. record { answer = tt; whole = refl };
-  told = λ told. unfit_step (shown_file old) (shown_file new) sought whence goal (goes_by old sought whence goal live seeks told) outcome.1.skips (outcome.2 told) (moved_file old new false false (start_place goal) outcome.0 outcome.0.calls.life_is outcome.1.place told);
+  passes = passed_on new false outcome.2;
+  told = λ told. unfit_step (shown_file old) (shown_file new) sought whence goal (goes_by old sought whence goal live seeks told) outcome.1.skips (outcome.3 told) (moved_file old new false false (start_place goal) outcome.0 outcome.0.calls.life_is outcome.1.place told);
 }
 parts_of old new sought whence goal (Err (fault.WouldBlock taken)) live seeks outcome = record {
   over = outcome.0;
   shorts = refl;
   answer = λ writes. outcome.1;
   lives = λ writes. outcome.0.calls.life_is;
-  seeks = left_at old new sought whence goal seeks.by outcome.2;
+  seeks = waited_at old new sought whence goal taken seeks.by outcome.2;
   starves = tt;
   complete = λ calm sound. absurd (cc);
-  told = λ told. wait_step (shown_file old) (shown_file new) sought whence goal taken (goes_by old sought whence goal live seeks told) outcome.1 (left_file old new true false goal outcome.0 outcome.0.calls.life_is outcome.2 told);
+  passes = tt;
+  told = λ told. wait_step (shown_file old) (shown_file new) sought whence goal taken (goes_by old sought whence goal live seeks told) outcome.1 (left_file old new true false goal outcome.0 outcome.0.calls.life_is (while_owing old new goal outcome.2) told);
 }
 parts_of old new sought whence goal (Err fault.RawFault) live seeks outcome = record {
   over = outcome.0;
@@ -190,6 +204,7 @@ parts_of old new sought whence goal (Err fault.RawFault) live seeks outcome = re
   seeks = left_at old new sought whence goal seeks.by outcome.1;
   starves = tt;
   complete = λ calm sound. absurd (cc);
+  passes = tt;
   told = λ told. fault_step (shown_file old) (shown_file new) sought whence goal (goes_by old sought whence goal live seeks told) (fails_so old new outcome.0 told);
 }
 parts_of old new sought whence goal (Err fault.NoMemory) live seeks outcome = record {
@@ -200,6 +215,7 @@ parts_of old new sought whence goal (Err fault.NoMemory) live seeks outcome = re
   seeks = starved_at old new sought whence goal seeks.by outcome.1;
   starves = starved_so old new sought whence goal outcome.0 outcome.1;
   complete = λ calm sound. record { answer = tt; whole = refl };
+  passes = tt;
   told = λ told. starve_step (shown_file old) (shown_file new) sought whence goal (goes_by old sought whence goal live seeks told) (left_file old new false false goal outcome.0 outcome.0.calls.life_is (without_memory old new goal outcome.1) told);
 }
 parts_of old new sought whence goal (Err other) live seeks outcome = absurd outcome
@@ -258,12 +274,12 @@ seeks_so old new sought whence waited reply live accepted was is parts =
       needs = λ gives. absurd (cc);
       hides = λ waits gives. absurd (cc);
       stops = λ waits. record { full = λ some. absurd (some refl); some = λ reads own. absurd (cc) };
-      passes = tt;
+      passes = parts.passes;
       by_own = tt;
       kept = tt;
       holds = tt;
     }
 
 -- a seek that came to this is a call of the one clause
-pub seek_answers : (old new : TextView) (sought : List ℕ) (whence : ℤ) (goal : Cookie) (result : Result (Unit {0}) IoFault) → old.buffer.life ≡ life.Live → IsJoined (over_of old) → IsJoined (over_of new) → Seeks old sought whence goal → SeekOutcome old goal result new → Answers (state_of old false) (SeekText sought whence) (sought_reply goal result) (state_of new (says_wait (sought_reply goal result)))
+pub seek_answers : (old new : TextView) (sought : List ℕ) (whence : ℤ) (goal : Cookie) (result : Result (Unit {0}) IoFault) → old.buffer.life ≡ life.Live → IsJoined (over_of old) → IsJoined (over_of new) → Seeks (state_of old false) sought whence goal → SeekOutcome old goal result new → Answers (state_of old false) (SeekText sought whence) (sought_reply goal result) (state_of new (says_wait (sought_reply goal result)))
 seek_answers old new sought whence goal result live was is seeks outcome = seeks_so old new sought whence (says_wait (sought_reply goal result)) (sought_reply goal result) live seeks.accepted was is (parts_of old new sought whence goal result live seeks outcome)

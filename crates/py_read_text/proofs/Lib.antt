@@ -24,7 +24,8 @@ pub mod Fronts
 pub mod Calling
 pub mod Living
 mod Going
-mod Landings
+pub mod Landings
+mod Ends
 mod Feeding
 mod Putting
 mod Inside

@@ -39,10 +39,10 @@ text_ungone before after held front at taken dirty place settings fault.NoMemory
 text_ungone before after held front at taken dirty place settings other live gone is = absurd gone
 
 pub goes_so : (old new : TextView) (place : ℕ) → GoOutcome old.buffer place (Ok tt) new.buffer → new.settings ≡ old.settings → place_of new ≡ clean_at place Unknown → TextGoes old place (Ok tt) new
-goes_so old new place gone settings there = (record { calls = gone.0; settings = settings }, there)
+goes_so old new place gone settings there = (record { calls = gone.0; settings = settings }, there, gone.2)
 
 pub goes_not : (old new : TextView) (place : ℕ) (why : IoFault) → GoOutcome old.buffer place (Err why) new.buffer → new.settings ≡ old.settings → place_of new ≡ place_of old → TextGoes old place (Err why) new
-goes_not old new place (fault.WouldBlock count) gone settings same = (record { calls = gone.0; settings = settings }, gone.2, same)
+goes_not old new place (fault.WouldBlock count) gone settings same = (record { calls = gone.0; settings = settings }, gone.2, same, gone.3)
 goes_not old new place fault.RawFault gone settings same = (record { calls = gone.0; settings = settings }, same)
 goes_not old new place fault.NoMemory gone settings same = (record { calls = gone.0; settings = settings }, same)
 goes_not old new place other gone settings same = absurd gone
@@ -52,9 +52,11 @@ pub sought_plainly : (old new : TextView) (goal : Cookie) (place : ℕ) (result 
 sought_plainly old new goal place (Ok done) none order there goes = (
   goes.0,
   goes.1 ∙ (ap (λ (at : ℕ). clean_at at Unknown) there ∙ (ap (clean_at (start_of goal)) (sym order) ∙ ap (λ (b : Bool). if b then place_inside goal else start_place goal) (sym none))),
+  goes.2,
+  λ skip. absurd (let never = sym none ∙ skip in cc),
   λ told skip. absurd (let never = sym none ∙ skip in cc),
 )
-sought_plainly old new goal place (Err (fault.WouldBlock count)) none order there goes = (goes.0, goes.1, inl goes.2)
+sought_plainly old new goal place (Err (fault.WouldBlock count)) none order there goes = (goes.0, goes.1, inl (goes.2, goes.3))
 sought_plainly old new goal place (Err fault.RawFault) none order there goes = (goes.0, inl goes.1)
 sought_plainly old new goal place (Err fault.NoMemory) none order there goes = (goes.0, inl goes.1)
 sought_plainly old new goal place (Err other) none order there goes = absurd goes
@@ -144,7 +146,7 @@ started_so old new encoding handler goal why fed skip by lands settings there = 
     start = record { skips = skip; place = there }
 
     by_why : (why : IoFault) → CallsBy old.buffer why new.buffer → (why ≡ fault.CannotRestore → RestoresTold old.buffer encoding handler goal false) → (why ≡ fault.NoMemory → IsTrue old.buffer.raw.takes_memory) → SeekOutcome old goal (Err why) new
-    by_why fault.CannotRestore calls unfit memory = (record { calls = calls; settings = settings }, start, restores_so old encoding handler goal by (unfit refl))
+    by_why fault.CannotRestore calls unfit memory = (record { calls = calls; settings = settings }, start, lands.stands.none, restores_so old encoding handler goal by (unfit refl))
     by_why (fault.WouldBlock count) calls unfit memory = (record { calls = calls.0; settings = settings }, calls.1, inr start)
     by_why fault.RawFault calls unfit memory = (record { calls = calls; settings = settings }, inr start)
     by_why fault.NoMemory calls unfit memory = (record { calls = calls; settings = settings }, inr (memory refl, start))
@@ -154,6 +156,8 @@ pub inside_so : (old new : TextView) (encoding : Encoding) (handler : Handler) (
 inside_so old new encoding handler goal text skipped fed skip flags by lands settings there = (
   record { calls = lands.calls; settings = settings },
   there ∙ (rw (lands.fits.size, lands.fits.skips) (sym (ap (λ (order : Order). let place : TextPlace = record { front = Some (record { start = start_of goal; length = fed_by goal; skipped = skipped_by goal }); at = start_of goal + fed_by goal; order = order; taken = 0; dirty = true } in place) (ap order_of flags))) ∙ ap (λ (b : Bool). if b then place_inside goal else start_place goal) (sym skip)),
+  lands.stands.none,
+  λ needed. (readable, omega (arith, lands.fits.size, lands.fits.some), omega (arith, lands.fits.size, lands.fits.few)),
   λ told needed. lands.restores told (shown_file old) (by readable).0 (by readable).1 refl refl,
 )
   where

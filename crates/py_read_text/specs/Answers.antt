@@ -238,12 +238,17 @@ SeeksBy text sought (pos (suc zero)) goal = TellsWithin (cookie.cookie_bytes goa
 SeeksBy text sought (pos (suc (suc zero))) goal = (end : ℕ) × (end ≤ greatest_place) × (goal ≡ cookie.boundary_cookie end 0)
 SeeksBy text sought whence goal = goal ≡ cookie.cookie_of sought
 
+-- where a cookie skips, it feeds one to four bytes, of a buffer that can be read
+abbrev pub FeedsWhereSkips : Buffer → cookie.Cookie → Type 0
+FeedsWhereSkips buffer goal = IsTrue (skips goal) → (buffer.can.readable ≡ true) × (1 ≤ fed_by goal) × (fed_by goal ≤ 4)
+
 -- a seek put a text where its cookie says, and answered that
 pub record PutBy (before : TextOver Buffer) (sought : List ℕ) (whence : ℤ) (told : List ℕ) (after : TextPlace) : Type 0 where
   pub goal : cookie.Cookie
   pub by : SeeksBy before sought whence goal
   pub says : told ≡ cookie.cookie_bytes goal
   pub place : after ≡ (if skips goal then place_inside goal else start_place goal)
+  pub inside : FeedsWhereSkips before.buffer goal
 
 -- a seek by a cookie that skips left a text, clean, at the cookie's start
 pub record PutAtStart (before : TextOver Buffer) (sought : List ℕ) (whence : ℤ) (after : TextPlace) : Type 0 where
@@ -252,12 +257,13 @@ pub record PutAtStart (before : TextOver Buffer) (sought : List ℕ) (whence : �
   pub skips : IsTrue (skips goal)
   pub place : after ≡ start_place goal
 
--- where a seek leaves a text: at the place of its cookie, or as it was; or at the start of a cookie that skips, where its bytes don't fit, or
--- where reading them had to wait, failed, or ran out of memory, also on the way back, over a raw that takes memory
+-- where a seek leaves a text: at the place of its cookie, or as it was, where it had to wait only while something was owed; or at the start
+-- of a cookie that skips, where its bytes don't fit, or where reading them had to wait, failed, or ran out of memory, also on the way back,
+-- over a raw that takes memory
 abbrev pub TextSeeks : TextFileCall → FileReply → TextOver Buffer → TextPlace → Type 0
 TextSeeks (SeekText sought whence) (Cookie told) before after = PutBy before sought whence told after
 TextSeeks (SeekText sought whence) (Refused fault.CannotRestore) before after = PutAtStart before sought whence after
-TextSeeks (SeekText sought whence) (Refused (fault.WouldBlock taken)) before after = (after ≡ before.place) ⊎ PutAtStart before sought whence after
+TextSeeks (SeekText sought whence) (Refused (fault.WouldBlock taken)) before after = ((after ≡ before.place) × (all_owed before ≢ [])) ⊎ PutAtStart before sought whence after
 TextSeeks (SeekText sought whence) (Refused fault.RawFault) before after = (after ≡ before.place) ⊎ PutAtStart before sought whence after
 TextSeeks (SeekText sought whence) (Refused fault.NoMemory) before after = (after ≡ before.place) ⊎ (IsTrue before.buffer.raw.takes_memory × PutAtStart before sought whence after)
 TextSeeks (SeekText sought whence) reply before after = after ≡ before.place
@@ -330,12 +336,14 @@ pub record IsPassedOn (state : TextState) : Type 0 where
   pub none : state.text.buffer.owed.bytes ≡ []
   pub holds : WhereShown state.text.buffer (state.text.buffer.raw.bytes ≡ (file_of state).bytes)
 
--- a done close of a live text passed all on that was owed, and so did its detaching, a done flush, and an answered write of a text with a
--- line end, with line buffering
+-- a done close of a live text passed all on that was owed, and so did its detaching, a done flush, a seek that was answered or whose cookie
+-- doesn't fit, and an answered write of a text with a line end, with line buffering
 abbrev pub TextPasses : (before : TextState) → TextFileCall → FileReply → (after : TextState) → Type 0
 TextPasses before Flush Done after = IsPassedOn after
 TextPasses before Close Done after = before.text.life ≡ life.Live → IsPassedOn after
 TextPasses before Detach (Unwritten bytes place) after = before.text.life ≡ life.Live → IsPassedOn after
+TextPasses before (SeekText sought whence) (Cookie bytes) after = IsPassedOn after
+TextPasses before (SeekText sought whence) (Refused fault.CannotRestore) after = IsPassedOn after
 TextPasses before (WriteText text) (Count count) after = before.text.settings.line_buffering ≡ true → has_line_end text ≡ true → IsPassedOn after
 TextPasses before call reply after = Unit {0}
 

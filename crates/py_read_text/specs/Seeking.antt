@@ -15,6 +15,7 @@ use Rattle.py_plain_text.specs.TextFile.{clean_at, TextFile}
 use Rattle.py_plain_text.specs.TextCalls.{SeekText}
 use Rattle.py_plain_text.specs.TextRefusals.{refusal}
 use Rattle.py_plain_text.specs.TextExact.{sought_cookie}
+use Rattle.py_stream.specs.Kinds.{says_wait}
 use Rattle.py_stream.specs.Buffer.{Buffer, WhereShown, flat_of}
 use Rattle.std.specs.declared.alloc.Global.{Global}
 use Rattle.py_plain.specs.declared.encoding.Encoding.{Encoding}
@@ -30,9 +31,10 @@ use Rattle.py_read_text.specs.declared.seeking.Fed.{Fed}
 use Rattle.py_read_text.specs.declared.seeking.Fed.TheVariants as fed
 use Rattle.py_read_text.specs.declared.seeking.Landing.{Landing}
 use Rattle.py_read_text.specs.declared.seeking.Landing.TheVariants as landing
-use Rattle.py_read_text.specs.Answers.{refused_here, SeeksBy}
-use Rattle.py_read_text.specs.Knowing.{TextView, place_of, over_of, shown_file}
+use Rattle.py_read_text.specs.Answers.{refused_here, SeeksBy, FeedsWhereSkips}
+use Rattle.py_read_text.specs.Knowing.{TextView, place_of, shown_file}
 use Rattle.py_read_text.specs.Reading.{Calls}
+use Rattle.py_read_text.specs.TextState.{TextState, file_of}
 
 -- a live buffer that can be moved, of which no bytes are lent out
 pub record CanGo (buffer : Buffer) : Type 0 where
@@ -157,11 +159,12 @@ pub record LandsAtStart (before : Buffer) (encoding : Encoding) (handler : Handl
   pub unfit : why ≡ fault.CannotRestore → RestoresTold before encoding handler goal false
   pub memory : why ≡ fault.NoMemory → IsTrue before.raw.takes_memory
 
--- the buffer didn't go there, or went back, and stands where it stood
+-- the buffer didn't go there, or went back, and stands where it stood; it had to wait only where it owed something
 pub record LandsBack (before : Buffer) (why : IoFault) (after : Buffer) : Type 0 where
   pub calls : CallsBy before why after
   pub place : after.place ≡ before.place
   pub other : why ≢ fault.CannotRestore
+  pub owed : says_wait (Refused why) ≡ true → before.owed.bytes ≢ []
 
 abbrev pub LandOutcome : Buffer → Encoding → Handler → Cookie → Landing → (fed : List ℕ) → Buffer → Type 0
 LandOutcome before encoding handler goal (landing.Inside text skipped) fed after = LandsInside before encoding handler goal text skipped fed after
@@ -171,36 +174,41 @@ LandOutcome before encoding handler goal (landing.Back why) fed after = LandsBac
 -- The text.
 
 -- a seek of a live text goes by a cookie, and nothing refuses it; told, it is the cookie of the model
-pub record Seeks (text : TextView) (sought : List ℕ) (whence : ℤ) (goal : Cookie) : Type 0 where
-  pub accepted : refused_here (shown_file text) (SeekText sought whence) ≡ None
-  pub by : SeeksBy (over_of text) sought whence goal
-  pub told : WhereShown text.buffer ((refusal (shown_file text) (SeekText sought whence) ≡ None) × (sought_cookie (shown_file text) sought whence ≡ goal))
+pub record Seeks (before : TextState) (sought : List ℕ) (whence : ℤ) (goal : Cookie) : Type 0 where
+  pub accepted : refused_here (file_of before) (SeekText sought whence) ≡ None
+  pub by : SeeksBy before.text sought whence goal
+  pub told : WhereShown before.text.buffer ((refusal (file_of before) (SeekText sought whence) ≡ None) × (sought_cookie (file_of before) sought whence ≡ goal))
 
 -- a text was put, clean, at the start of a cookie that skips
 pub record StandsAtStart (goal : Cookie) (new : TextView) : Type 0 where
   pub skips : IsTrue (skips goal)
   pub place : place_of new ≡ start_place goal
 
+-- a text stayed as its buffer was to pass on what it owed
+abbrev pub StaysOwing : TextView → TextView → Type 0
+StaysOwing old new = (place_of new ≡ place_of old) × (old.buffer.owed.bytes ≢ [])
+
 -- the buffer was called, and the settings stay
 pub record SeeksOver (old : TextView) (waited faulted : Bool) (new : TextView) : Type 0 where
   pub calls : Calls old.buffer waited faulted new.buffer
   pub settings : new.settings ≡ old.settings
 
--- a text goes to a byte place, clean; or the raw would have blocked as its buffer passed on what it owes, or failed, or memory ran out, and it
--- stays
+-- a text goes to a byte place, clean, and its buffer owes nothing; or the raw would have blocked as the buffer passed on what it owed, or
+-- failed, or memory ran out, and it stays
 abbrev pub TextGoes : TextView → (place : ℕ) → Result (Unit {0}) IoFault → TextView → Type 0
-TextGoes old place (Ok done) new = SeeksOver old false false new × (place_of new ≡ clean_at place Unknown)
-TextGoes old place (Err (fault.WouldBlock taken)) new = SeeksOver old true false new × (taken ≡ 0) × (place_of new ≡ place_of old)
+TextGoes old place (Ok done) new = SeeksOver old false false new × (place_of new ≡ clean_at place Unknown) × (new.buffer.owed.bytes ≡ [])
+TextGoes old place (Err (fault.WouldBlock taken)) new = SeeksOver old true false new × (taken ≡ 0) × (place_of new ≡ place_of old) × (old.buffer.owed.bytes ≢ [])
 TextGoes old place (Err fault.RawFault) new = SeeksOver old false true new × (place_of new ≡ place_of old)
 TextGoes old place (Err fault.NoMemory) new = SeeksOver old false false new × (place_of new ≡ place_of old)
 TextGoes old place (Err other) new = ⊥
 
--- a text stands where the cookie says; or at its start, told, since its bytes don't fit; or the raw would have blocked, or failed, or memory ran
--- out: the text stays, or it stands at the start of a cookie that skips, out of memory only over a raw that takes memory
+-- a text stands where the cookie says, or at its start, told, since its bytes don't fit, and its buffer owes nothing; or the raw would have
+-- blocked, or failed, or memory ran out: the text stays, or it stands at the start of a cookie that skips, out of memory only over a raw
+-- that takes memory
 abbrev pub SeekOutcome : TextView → (goal : Cookie) → Result (Unit {0}) IoFault → TextView → Type 0
-SeekOutcome old goal (Ok done) new = SeeksOver old false false new × (place_of new ≡ (if skips goal then place_inside goal else start_place goal)) × WhereShown old.buffer (IsTrue (skips goal) → is_restorable (shown_file old) goal ≡ true)
-SeekOutcome old goal (Err fault.CannotRestore) new = SeeksOver old false false new × StandsAtStart goal new × WhereShown old.buffer (is_restorable (shown_file old) goal ≡ false)
-SeekOutcome old goal (Err (fault.WouldBlock taken)) new = SeeksOver old true false new × (taken ≡ 0) × ((place_of new ≡ place_of old) ⊎ StandsAtStart goal new)
+SeekOutcome old goal (Ok done) new = SeeksOver old false false new × (place_of new ≡ (if skips goal then place_inside goal else start_place goal)) × (new.buffer.owed.bytes ≡ []) × FeedsWhereSkips old.buffer goal × WhereShown old.buffer (IsTrue (skips goal) → is_restorable (shown_file old) goal ≡ true)
+SeekOutcome old goal (Err fault.CannotRestore) new = SeeksOver old false false new × StandsAtStart goal new × (new.buffer.owed.bytes ≡ []) × WhereShown old.buffer (is_restorable (shown_file old) goal ≡ false)
+SeekOutcome old goal (Err (fault.WouldBlock taken)) new = SeeksOver old true false new × (taken ≡ 0) × (StaysOwing old new ⊎ StandsAtStart goal new)
 SeekOutcome old goal (Err fault.RawFault) new = SeeksOver old false true new × ((place_of new ≡ place_of old) ⊎ StandsAtStart goal new)
 SeekOutcome old goal (Err fault.NoMemory) new = SeeksOver old false false new × ((place_of new ≡ place_of old) ⊎ (IsTrue old.buffer.raw.takes_memory × StandsAtStart goal new))
 SeekOutcome old goal (Err other) new = ⊥

@@ -14,7 +14,7 @@ ghost use Rattle.py_read_text.specs.TextState.{settings_of};
 ghost use Rattle.py_codec.specs.Answers.{text_of};
 ghost use Rattle.py_plain_text.specs.TextStep.{asks_any};
 ghost use Rattle.py_stream.specs.Writing.{OwesUpTo, Takes};
-ghost use Rattle.py_stream.specs.Buffer.{WhereShown, flat_of, stream_shown, AnswersAsBuffer};
+ghost use Rattle.py_stream.specs.Buffer.{WhereShown, flat_of, stream_shown, AnswersAsBuffer, EndsAt};
 ghost use Rattle.py_held_text.specs.Finding.{IsFrontOf, answer_of};
 ghost use Rattle.py_read_text.specs.Reading.{size_of, asks_all, KeepsPlace, FetchOutcome, GatherOutcome, GathersAsNeeded, asks_none, GiveOutcome, GiveAllOutcome, GatheredAt, Finishes, OnlyWhereWaits, WaitsOrLacks, reply_of, call_of, waited_in};
 ghost use Rattle.py_plain_text.specs.Telling.{told};
@@ -206,6 +206,13 @@ impl<B: BufferedStream> ReadText<B> {
         ensures { result ≡ self.now.buffer.can.seekable }
     {
         self.buffer.seekable()
+    }
+
+    /// Whether each write of the buffer goes to the end.
+    pub fn appending(&self) -> bool
+        ensures { result ≡ self.now.buffer.can.appending }
+    {
+        self.buffer.appending()
     }
 
     /// The settings, but for the encoding and the handler.
@@ -426,14 +433,28 @@ impl<B: BufferedStream> ReadText<B> {
         requires appends { self.old.buffer.can.appending ≡ false }
         requires near { start_of (cookie_shown cookie.now) ≤ greatest_place }
         requires flags { (cookie_shown cookie.now).dec_flags ≡ pos 0 }
+        ensures outcome { SeekOutcome self.old (cookie_shown cookie.now) result self.new }
         ensures joined { IsJoined (over_of self.new) }
-        ensures answers { (sought : List ℕ) (whence : ℤ) → Seeks self.old sought whence (cookie_shown cookie.now)
+        ensures answers { (sought : List ℕ) (whence : ℤ) → Seeks (state_of self.old false) sought whence (cookie_shown cookie.now)
             → Answers (state_of self.old false) (SeekText sought whence) (sought_reply (cookie_shown cookie.now) result)
             (state_of self.new (says_wait (sought_reply (cookie_shown cookie.now) result))) }
     {
         // What holds of every text is known from here on.
         let _ = self.life();
         self.go_by(alloc, cookie)
+    }
+
+    /// How many bytes there are. The text stays as it is.
+    pub fn end(&mut self) -> Result<u64, IoFault>
+        requires live { self.old.buffer.life ≡ Life.Live }
+        requires seeks { self.old.buffer.can.seekable ≡ true }
+        ensures ends { EndsAt self.old.buffer result self.new.buffer }
+        ensures keeps { KeepsPlace self.old self.new }
+        ensures joined { IsJoined (over_of self.new) }
+    {
+        // What holds of every text is known from here on.
+        let _ = &self.held;
+        self.buffer.end()
     }
 
     /// How many bytes the buffer took of the last that were written to it.

@@ -1,14 +1,13 @@
 //! Moving the buffer of a text to a place, and reading what a cookie feeds there.
 ghost use Rattle.std.specs.Prelude.{◌≡◌, ◌≤◌, ◌-◌, true, false, [], vec_len, vec_capacity};
 ghost use Rattle.py_flat.specs.Limits.{greatest_place};
-ghost use Rattle.py_flat.specs.Calls.{Refused};
 ghost use Rattle.py_flat.specs.Refusals.{is_unbuffered};
 ghost use Rattle.py_plain.specs.Handlers.{reads_texts};
 ghost use Rattle.py_plain_text.specs.CookieView.{cookie_shown};
 ghost use Rattle.py_plain_text.specs.Landing.{start_of, fed_by, skipped_by, skips};
-ghost use Rattle.py_stream.specs.Kinds.{says_no_memory};
 ghost use Rattle.py_read_text.specs.Seeking.{CanGo, GoOutcome, CanFeed, FeedOutcome, LookedAt, FedOutcome, GoesBack, LandOutcome};
 
+use crate::faults::is_no_memory;
 use py_blocks::front_of;
 use py_flat::IoFault;
 use py_held_text::{Coder, HeldFront, decoded_alone};
@@ -153,13 +152,6 @@ pub(crate) enum Landing {
     Start(IoFault),
     /// Where the buffer stood, and what refuses it.
     Back(IoFault),
-}
-
-/// Whether memory ran out.
-fn is_no_memory(fault: IoFault) -> bool
-    ensures { result ≡ says_no_memory (Refused fault) }
-{
-    matches!(fault, IoFault::NoMemory)
 }
 
 /// Moves a live buffer back to where it stood, since memory ran out.
