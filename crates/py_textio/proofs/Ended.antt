@@ -76,7 +76,7 @@ front-some : (front back : List ℕ) → front ≢ [] → front ++ back ≢ []
 front-some [] back some = absurd (some refl)
 front-some (byte ∷ more) back some = λ none. absurd (cc)
 
-back-some : (front back : List ℕ) → back ≢ [] → front ++ back ≢ []
+pub back-some : (front back : List ℕ) → back ≢ [] → front ++ back ≢ []
 back-some [] back some = some
 back-some (byte ∷ more) back some = λ none. absurd (cc)
 

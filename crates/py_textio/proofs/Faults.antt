@@ -1,5 +1,5 @@
 -- What refuses a call of a text before it does any work blames nothing but the text and the call.
-use Rattle.std.proofs.Common.{◌≡◌, ℕ, ◌+◌, zero, suc, ℤ, pos, Bool, true, false, not, nat_eq, length, Option, Some, None, if◌then◌else◌, refl}
+use Rattle.std.proofs.Common.{◌≡◌, ℕ, ◌+◌, zero, suc, ℤ, pos, Bool, true, false, not, nat_eq, length, Option, Some, None, if◌then◌else◌, List, [], refl, sym, ap, ◌∙◌}
 use Rattle.py_flat.specs.declared.fault.IoFault.{IoFault}
 use Rattle.py_flat.specs.declared.fault.IoFault.TheVariants as fault
 use Rattle.py_flat.specs.declared.life.Life.{Life}
@@ -12,6 +12,7 @@ use Rattle.py_plain_text.specs.TextFile.{TextFile}
 use Rattle.py_plain_text.specs.TextCalls.{TextFileCall, WriteText, SeekText, Reconfigure, SetChunkSize, changes_reading, is_getter}
 use Rattle.py_plain_text.specs.TextRefusals.{refusal, lets_through, life_refusal, lacks, whence_refusal, counts_on, cookie_refusal, end_refusal, encode_error, dirty_refusal, fits_handler, handler_refusal, argument_refusal}
 use Rattle.py_plain_text.specs.TextWriting.{written_bytes, written_refusal}
+use Rattle.py_read_text.specs.Answers.{refused_here}
 
 -- a fault that only work has: the raw's, a want of memory, or that a cookie doesn't fit the bytes
 abbrev pub of_work : IoFault → Bool
@@ -75,3 +76,15 @@ own_refusal file call =
     own_choice (is_getter call) None _ tt
     (own_or (life_refusal file.life call) _ (own_choice (lets_through file.life call) None (life_fault file.life) tt (own_life file.life))
     (own_or (refused_if (lacks file call) fault.Unsupported) (argument_refusal file call) (own_if (lacks file call) fault.Unsupported refl) (own_argument file call)))
+
+own_so : (refusal : Option IoFault) (why : IoFault) → IsOwn refusal → refusal ≡ Some why → of_work why ≡ false
+own_so None why own is = absurd (cc)
+own_so (Some other) why own is = let same : other ≡ why = cc in ap of_work (sym same) ∙ own
+
+work_blames : (why : IoFault) → of_work why ≡ false → blames why ≡ false
+work_blames fault.CannotRestore own = absurd (cc)
+work_blames why own = own
+
+-- what refuses a seek before its buffer is asked for anything
+pub own_seek : (file : TextFile) (sought : List ℕ) (whence : ℤ) (why : IoFault) → refused_here file (SeekText sought whence) ≡ Some why → blames why ≡ false
+own_seek file sought whence why is = work_blames why (own_so _ why (own_refusal (record file { bytes = [] }) (SeekText sought whence)) is)

@@ -8,9 +8,11 @@ mod Over
 mod Stopping
 mod Nothing
 mod Writing
+mod Ends
 pub mod Sizes
 pub mod Smooth
 mod Ended
 mod Rooms
 mod Detaching
 pub mod Detached
+mod Seeking

@@ -30,6 +30,7 @@ use Rattle.py_read_text.specs.Knowing.{place_of}
 use Rattle.py_textio.specs.Written.{WrittenView, behind_owed, place_now, over_of, state_of, file_now, CallsBuffer, HandsOnBut, HandsOn, SettleOutcome}
 use Rattle.py_textio.specs.Working.{Works}
 use Rattle.py_textio.proofs.Working.{answers_work}
+use Rattle.py_textio.proofs.Ended.{back-some}
 use Rattle.py_read_text.proofs.Fronts.{lays_on}
 
 -- The buffer, called twice.
@@ -96,7 +97,7 @@ behind_still old new stood there place = omega (arith, stood, there, behind_at (
 -- What is owed, by two calls.
 
 -- of a call that gives no bytes, the settings being as they were
-owes_behind : (old mid new : TextOver Buffer) (call : TextFileCall) → Keeps old.buffer.raw mid.buffer.raw → PassesOwed old.buffer.raw (all_owed old) mid.buffer.raw (all_owed mid) → mid.settings ≡ old.settings → mid.place ≡ old.place → OwesOn mid call new → OwesOn old call new
+pub owes_behind : (old mid new : TextOver Buffer) (call : TextFileCall) → Keeps old.buffer.raw mid.buffer.raw → PassesOwed old.buffer.raw (all_owed old) mid.buffer.raw (all_owed mid) → mid.settings ≡ old.settings → mid.place ≡ old.place → OwesOn mid call new → OwesOn old call new
 owes_behind old mid new call keeps first settings place second = record {
   taken = second.taken;
   whole = subst (λ (own : TextSettings). (second.taken ≡ []) ⊎ (second.taken ≡ given_by own call)) settings second.whole;
@@ -146,7 +147,7 @@ tells_on old mid bytes place behind tells = record {
   within = subst (λ (far : ℕ). start_of tells.told + fed_by tells.told ≤ far) behind tells.within;
 }
 
-sought_on : (old mid : TextOver Buffer) (sought : List ℕ) (whence : ℤ) (goal : Cookie) → mid.place ≡ old.place → behind_own mid ≡ behind_own old → SeeksBy mid sought whence goal → SeeksBy old sought whence goal
+pub sought_on : (old mid : TextOver Buffer) (sought : List ℕ) (whence : ℤ) (goal : Cookie) → mid.place ≡ old.place → behind_own mid ≡ behind_own old → SeeksBy mid sought whence goal → SeeksBy old sought whence goal
 sought_on old mid sought (pos (suc zero)) goal place behind by = tells_on old mid (cookie_bytes goal) place behind by
 sought_on old mid sought (pos (suc (suc zero))) goal place behind by = by
 sought_on old mid sought whence goal place behind by = by
@@ -158,15 +159,28 @@ left_on : (old mid : TextOver Buffer) (sought : List ℕ) (whence : ℤ) (after 
 left_on old mid sought whence after place behind (inl still) = inl (still ∙ place)
 left_on old mid sought whence after place behind (inr put) = inr (put_on old mid sought whence after place behind put)
 
-seeks_on : (old mid : TextOver Buffer) (call : TextFileCall) (reply : FileReply) (after : TextPlace) → mid.place ≡ old.place → behind_own mid ≡ behind_own old → mid.buffer.raw.takes_memory ≡ old.buffer.raw.takes_memory → TextSeeks call reply mid after → TextSeeks call reply old after
-seeks_on old mid (SeekText sought whence) (Told bytes) after place behind takes put = record { goal = put.goal; by = sought_on old mid sought whence put.goal place behind put.by; says = put.says; place = put.place }
-seeks_on old mid (SeekText sought whence) (Refused fault.CannotRestore) after place behind takes put = put_on old mid sought whence after place behind put
-seeks_on old mid (SeekText sought whence) (Refused (fault.WouldBlock taken)) after place behind takes left = left_on old mid sought whence after place behind left
-seeks_on old mid (SeekText sought whence) (Refused fault.RawFault) after place behind takes left = left_on old mid sought whence after place behind left
-seeks_on old mid (SeekText sought whence) (Refused fault.NoMemory) after place behind takes (inl still) = inl (still ∙ place)
-seeks_on old mid (SeekText sought whence) (Refused fault.NoMemory) after place behind takes (inr put) = inr (sym takes ∙ put.0, put_on old mid sought whence after place behind put.1)
-seeks_on old mid (SeekText sought whence) reply after place behind takes still = still ∙ place
-seeks_on old mid call reply after place behind takes none = tt
+-- a call left what a seek goes by: the place, the place behind what the text itself owed, what its buffer can, whether its raw takes memory;
+-- and if something is owed, something was
+pub record LeavesSought (old mid : TextOver Buffer) : Type 0 where
+  pub place : mid.place ≡ old.place
+  pub behind : behind_own mid ≡ behind_own old
+  pub can : mid.buffer.can ≡ old.buffer.can
+  pub takes : mid.buffer.raw.takes_memory ≡ old.buffer.raw.takes_memory
+  pub owed : all_owed mid ≢ [] → all_owed old ≢ []
+
+waited_on : (old mid : TextOver Buffer) (sought : List ℕ) (whence : ℤ) (after : TextPlace) → LeavesSought old mid → ((after ≡ mid.place) × (all_owed mid ≢ [])) ⊎ PutAtStart mid sought whence after → ((after ≡ old.place) × (all_owed old ≢ [])) ⊎ PutAtStart old sought whence after
+waited_on old mid sought whence after leaves (inl still) = inl (still.0 ∙ leaves.place, leaves.owed still.1)
+waited_on old mid sought whence after leaves (inr put) = inr (put_on old mid sought whence after leaves.place leaves.behind put)
+
+pub seeks_on : (old mid : TextOver Buffer) (call : TextFileCall) (reply : FileReply) (after : TextPlace) → LeavesSought old mid → TextSeeks call reply mid after → TextSeeks call reply old after
+seeks_on old mid (SeekText sought whence) (Told bytes) after leaves put = record { goal = put.goal; by = sought_on old mid sought whence put.goal leaves.place leaves.behind put.by; says = put.says; place = put.place; inside = λ skips. let feeds = put.inside skips in (ap (λ (own : Abilities). own.readable) (sym leaves.can) ∙ feeds.0, feeds.1, feeds.2) }
+seeks_on old mid (SeekText sought whence) (Refused fault.CannotRestore) after leaves put = put_on old mid sought whence after leaves.place leaves.behind put
+seeks_on old mid (SeekText sought whence) (Refused (fault.WouldBlock taken)) after leaves left = waited_on old mid sought whence after leaves left
+seeks_on old mid (SeekText sought whence) (Refused fault.RawFault) after leaves left = left_on old mid sought whence after leaves.place leaves.behind left
+seeks_on old mid (SeekText sought whence) (Refused fault.NoMemory) after leaves (inl still) = inl (still ∙ leaves.place)
+seeks_on old mid (SeekText sought whence) (Refused fault.NoMemory) after leaves (inr put) = inr (sym leaves.takes ∙ put.0, put_on old mid sought whence after leaves.place leaves.behind put.1)
+seeks_on old mid (SeekText sought whence) reply after leaves still = still ∙ leaves.place
+seeks_on old mid call reply after leaves none = tt
 
 -- a text doesn't stand before where what it owes its buffer begins
 pub reaches_place : (place : TextPlace) (owed : List ℕ) → place.at ≤ (behind_owed place owed).at
@@ -207,7 +221,7 @@ answers_over old mid call reply new short was is writes live lives stood there h
       written = written;
       lines = subst (λ (own : TextSettings). ReadsOneLine own.newline call reply) hands.settings answers.lines;
       blames = subst (λ (own : TextPlace). TextBlames call reply own new.text.buffer.place) hands.place answers.blames;
-      seeks = seeks_on (over_of old) (over_of mid) call reply (place_now new) hands.place behind hands.calls.keeps.raw.takes_memory answers.seeks;
+      seeks = seeks_on (over_of old) (over_of mid) call reply (place_now new) (record { place = hands.place; behind = behind; can = can; takes = hands.calls.keeps.raw.takes_memory; owed = λ left. back-some old.text.buffer.owed.bytes old.pending owes }) answers.seeks;
       joined = answers.joined;
       owes = owes_behind (over_of old) (over_of mid) (over_of new) call hands.calls.keeps.raw hands.owes hands.settings hands.place answers.owes;
       lays = subst (λ (own : TextSettings). LaysOwed (over_of old) (all_owed (over_of old) ++ given_by own call) (over_of new)) hands.settings
@@ -272,7 +286,7 @@ read_over old mid new asked reply short was is writes live stood there owes can 
     let still : mid.text.buffer.can.readable ≡ true = ap (λ (own : Abilities). own.readable) hands.calls.keeps.can ∙ can in
     answers_work old (call_of asked) reply new short (answers_over old mid (call_of asked) reply new short was is writes live outcome.2 stood there hands outcome.1 (busy_read old.pending asked owes) owes (some_read asked some) (once_read asked) (accepts_here (file_now old) asked live can) (accepts_here (file_now mid) asked outcome.2 still) (unwritten_read asked old.text.settings reply (place_now old) (place_now new)) (unpassed_read asked (state_of old false) reply (state_of new short)) (unwanted_read asked reply old.text.buffer) (unclosed_read asked old.life old.text.buffer reply new.text.buffer) (λ gives. needs_over old mid new (call_of asked) short hands (outcome.2 ∙ sym live) stood there (answers.needs gives)) (unheld_read asked (over_of old) reply (over_of new)) answers)
 
-busy_other : (owed : List ℕ) (call : TextFileCall) → owed ≢ [] → passes_on owed call ≡ true
+pub busy_other : (owed : List ℕ) (call : TextFileCall) → owed ≢ [] → passes_on owed call ≡ true
 busy_other [] call some = absurd (some refl)
 busy_other (byte ∷ more) call some = grind arith
 

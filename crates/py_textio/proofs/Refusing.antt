@@ -53,12 +53,6 @@ written_refused settings (WriteText text) fault.NoMemory place own = inl refl
 written_refused settings (WriteText text) why place own = refl
 written_refused settings call why place own = tt
 
-passes_refused : (before : TextState) (call : TextFileCall) (why : IoFault) (after : TextState) → TextPasses before call (Refused why) after
-passes_refused before (WriteText text) why after = tt
-passes_refused before Flush why after = tt
-passes_refused before Close why after = tt
-passes_refused before call why after = tt
-
 keeps_refused : (call : TextFileCall) (why : IoFault) (after : TextState) → TextKeeps call (Refused why) after
 keeps_refused (WriteText text) why after = tt
 keeps_refused call why after = tt
@@ -134,11 +128,21 @@ refuses_no_range file asked life.Detached readable why is can here = same_range 
 
 seeks_refused : (text : TextOver Buffer) (file : TextFile) (call : TextFileCall) (why : IoFault) → refusal file call ≡ Some why → TextSeeks call (Refused why) text text.place
 seeks_refused text file (SeekText sought whence) fault.CannotRestore is = let never : true ≡ false = subst IsOwn is (own_refusal file (SeekText sought whence)) in absurd (cc)
-seeks_refused text file (SeekText sought whence) (fault.WouldBlock taken) is = inl refl
+seeks_refused text file (SeekText sought whence) (fault.WouldBlock taken) is = let never : true ≡ false = subst IsOwn is (own_refusal file (SeekText sought whence)) in absurd (cc)
 seeks_refused text file (SeekText sought whence) fault.RawFault is = inl refl
 seeks_refused text file (SeekText sought whence) fault.NoMemory is = inl refl
 seeks_refused text file (SeekText sought whence) why is = refl
 seeks_refused text file call why is = tt
+
+-- what is refused before it does any work is no cookie that doesn't fit
+passes_refused : (before : TextState) (file : TextFile) (call : TextFileCall) (why : IoFault) (after : TextState) → refusal file call ≡ Some why → TextPasses before call (Refused why) after
+passes_refused before file (SeekText sought whence) fault.CannotRestore after is = let never : true ≡ false = subst IsOwn is (own_refusal file (SeekText sought whence)) in absurd (cc)
+passes_refused before file (SeekText sought whence) why after is = tt
+passes_refused before file (WriteText text) why after is = tt
+passes_refused before file Flush why after is = tt
+passes_refused before file Close why after is = tt
+passes_refused before file Detach why after is = tt
+passes_refused before file call why after is = tt
 
 -- what refuses, where nothing or something more is looked at last
 refuses_before : (first last more : Option IoFault) (why : IoFault) → (last ≡ Some why → more ≡ Some why) → or_else first last ≡ Some why → or_else first more ≡ Some why
@@ -208,7 +212,7 @@ refused text was call why here own once joined =
       told = λ told. subst (λ (faulted : Bool). TextFileStep (file_now text) call (Refused why) false faulted (file_now text)) (sym quiet) (step_refused (file_now text) call why is);
       needs = λ gives told. inl (omega arith);
       hides = λ short. absurd (cc);
-      passes = passes_refused (state_of text was) call why (state_of text false);
+      passes = passes_refused (state_of text was) (file_now text) call why (state_of text false) is;
       by_own = stays_put call (over_of text);
       kept = keeps_refused call why (state_of text false);
       holds = holds_refused (over_of text) call why (over_of text);

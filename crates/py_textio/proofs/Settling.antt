@@ -276,7 +276,7 @@ joined_bare text pending room current none joined = subst (λ (owed : List ℕ).
 
 -- Going back to the place.
 
-kept_place : (old new : TextView) → KeepsPlace old new → place_of new ≡ place_of old
+pub kept_place : (old new : TextView) → KeepsPlace old new → place_of new ≡ place_of old
 kept_place old new place = rw (place.front, place.at, place.taken, place.dirty) refl
 
 back_bytes : (old new : TextView) (pending : List ℕ) (current : Life) → IsWritten old pending current → KeepsPlace old new → (new.at ≡ new.buffer.place) ⊎ (new.buffer.place ≡ old.buffer.place) → (flat_of new.buffer).bytes ≡ (flat_of old.buffer).bytes → lay (flat_of new.buffer).bytes new.buffer.place pending ≡ lay (flat_of old.buffer).bytes old.buffer.place pending

@@ -15,7 +15,7 @@ use Rattle.py_stream.specs.Kinds.{says_wait, says_fault}
 use Rattle.py_stream.specs.Buffer.{Buffer, WhereShown}
 use Rattle.py_held_text.specs.declared.wanted.Wanted.{Wanted}
 use Rattle.py_held_text.specs.declared.wanted.Wanted.TheVariants.{Characters, Line}
-use Rattle.py_read_text.specs.Owing.{IsJoined, WriteMovesBy, FailedWithOwn, Starves, KeepsOpen, Closes, given_by}
+use Rattle.py_read_text.specs.Owing.{all_owed, IsJoined, WriteMovesBy, FailedWithOwn, Starves, KeepsOpen, Closes, given_by}
 use Rattle.py_read_text.proofs.Calling.{Passing, faulted_life, passes_accepted, fails_still, wait_step, fault_step, starve_step}
 use Rattle.py_read_text.proofs.Owing.{owes_none, has_own, owing_open}
 use Rattle.py_read_text.specs.Knowing.{place_of}
@@ -26,6 +26,7 @@ use Rattle.py_read_text.proofs.Results.{faults_step, starves_step}
 use Rattle.py_textio.specs.Written.{WrittenView, place_now, over_of, state_of, file_now, HandsOn, TakesNothing, IsStuffed, SettleOutcome, stopped_reply, with_taken}
 use Rattle.py_textio.specs.Working.{Works}
 use Rattle.py_textio.proofs.Working.{answers_work}
+use Rattle.py_textio.proofs.Ended.{back-some}
 use Rattle.py_textio.proofs.Over.{stays_put, moves_on, behind_still, reaches_place, handed_file}
 use Rattle.py_read_text.proofs.Fronts.{lays_given}
 
@@ -47,7 +48,7 @@ pub record Ends (call : TextFileCall) (reply : FileReply) (short : Bool) : Type 
   pub holds : (before after : _) → TextHolds before call reply after
   pub lines : (newline : _) → ReadsOneLine newline call reply
   pub blames : (own : TextPlace) (far : ℕ) → TextBlames call reply own far
-  pub seeks : (before : TextOver Buffer) → TextSeeks call reply before before.place
+  pub seeks : (before : TextOver Buffer) → all_owed before ≢ [] → TextSeeks call reply before before.place
   pub moves : (from to : ℕ) → WriteMovesBy call 0 from to
   pub closes : (current : Life) (before after : Buffer) → KeepsOpen before after → Closes current call before reply after
 
@@ -77,7 +78,7 @@ ends_work old call reply new short owes ends accepted hands there left current j
   written = subst (λ (own : TextPlace). WriteMoves old.text.settings call reply (place_now old) own) (sym hands.place) (ends.written old.text.settings (place_now old));
   lines = ends.lines old.text.settings.newline;
   blames = ends.blames (place_now old) new.text.buffer.place;
-  seeks = subst (λ (own : TextPlace). TextSeeks call reply (over_of old) own) (sym hands.place) (ends.seeks (over_of old));
+  seeks = subst (λ (own : TextPlace). TextSeeks call reply (over_of old) own) (sym hands.place) (ends.seeks (over_of old) (back-some old.text.buffer.owed.bytes old.pending owes.some));
   joined = joined;
   owes = owes_none (over_of old) call (over_of new) (ends.moves (place_now old).at (place_now new).at) hands.owes;
   lays = lays_given (over_of old) (given_by old.text.settings call) (over_of new) hands.lays;
@@ -105,7 +106,7 @@ ends_work old call reply new short owes ends accepted hands there left current j
     by_short false false is fails calm sound = ends.calm is fails
 
 -- running out of memory left a live text as it was
-starved_not : (old new : WrittenView) (call : TextFileCall) → HandsOn old false false new → new.life ≡ old.life → Starves (over_of old) call (Refused fault.NoMemory) (over_of new)
+pub starved_not : (old new : WrittenView) (call : TextFileCall) → HandsOn old false false new → new.life ≡ old.life → Starves (over_of old) call (Refused fault.NoMemory) (over_of new)
 starved_not old new call hands current = inl (record { life_is = current; settings = hands.settings; place = hands.place })
 
 -- Readings.
@@ -114,19 +115,19 @@ some_asked : (asked : Wanted) → asks_none asked ≡ false → calls_nothing (c
 some_asked asked some = grind arith
 
 unready_ends : (asked : Wanted) → asks_none asked ≡ false → Ends (call_of asked) NotReady true
-unready_ends (Characters None) some = record { once = refl; some = some_asked (Characters None) some; shorts = refl; settings = λ own. refl; place = λ own end. refl; written = λ settings own. tt; answer = tt; calm = λ is. absurd (cc); passes = λ before after. tt; kept = λ after. tt; holds = λ before after. tt; lines = λ newline. tt; blames = λ own far. tt; seeks = λ before. tt; moves = λ from to. tt; closes = λ current before after kept. tt }
-unready_ends (Characters (Some size)) some = record { once = refl; some = some_asked (Characters (Some size)) some; shorts = refl; settings = λ own. refl; place = λ own end. refl; written = λ settings own. tt; answer = tt; calm = λ is. absurd (cc); passes = λ before after. tt; kept = λ after. tt; holds = λ before after. tt; lines = λ newline. tt; blames = λ own far. tt; seeks = λ before. tt; moves = λ from to. tt; closes = λ current before after kept. tt }
-unready_ends (Line limit) some = record { once = refl; some = some_asked (Line limit) some; shorts = refl; settings = λ own. refl; place = λ own end. refl; written = λ settings own. tt; answer = tt; calm = λ is. absurd (cc); passes = λ before after. tt; kept = λ after. tt; holds = λ before after. tt; lines = λ newline. tt; blames = λ own far. tt; seeks = λ before. tt; moves = λ from to. tt; closes = λ current before after kept. tt }
+unready_ends (Characters None) some = record { once = refl; some = some_asked (Characters None) some; shorts = refl; settings = λ own. refl; place = λ own end. refl; written = λ settings own. tt; answer = tt; calm = λ is. absurd (cc); passes = λ before after. tt; kept = λ after. tt; holds = λ before after. tt; lines = λ newline. tt; blames = λ own far. tt; seeks = λ before some. tt; moves = λ from to. tt; closes = λ current before after kept. tt }
+unready_ends (Characters (Some size)) some = record { once = refl; some = some_asked (Characters (Some size)) some; shorts = refl; settings = λ own. refl; place = λ own end. refl; written = λ settings own. tt; answer = tt; calm = λ is. absurd (cc); passes = λ before after. tt; kept = λ after. tt; holds = λ before after. tt; lines = λ newline. tt; blames = λ own far. tt; seeks = λ before some. tt; moves = λ from to. tt; closes = λ current before after kept. tt }
+unready_ends (Line limit) some = record { once = refl; some = some_asked (Line limit) some; shorts = refl; settings = λ own. refl; place = λ own end. refl; written = λ settings own. tt; answer = tt; calm = λ is. absurd (cc); passes = λ before after. tt; kept = λ after. tt; holds = λ before after. tt; lines = λ newline. tt; blames = λ own far. tt; seeks = λ before some. tt; moves = λ from to. tt; closes = λ current before after kept. tt }
 
 fault_ends : (asked : Wanted) → asks_none asked ≡ false → Ends (call_of asked) (Refused fault.RawFault) false
-fault_ends (Characters None) some = record { once = refl; some = some_asked (Characters None) some; shorts = refl; settings = λ own. refl; place = λ own end. refl; written = λ settings own. tt; answer = tt; calm = λ is fails. absurd (cc); passes = λ before after. tt; kept = λ after. tt; holds = λ before after. tt; lines = λ newline. tt; blames = λ own far. tt; seeks = λ before. tt; moves = λ from to. tt; closes = λ current before after kept. tt }
-fault_ends (Characters (Some size)) some = record { once = refl; some = some_asked (Characters (Some size)) some; shorts = refl; settings = λ own. refl; place = λ own end. refl; written = λ settings own. tt; answer = tt; calm = λ is fails. absurd (cc); passes = λ before after. tt; kept = λ after. tt; holds = λ before after. tt; lines = λ newline. tt; blames = λ own far. tt; seeks = λ before. tt; moves = λ from to. tt; closes = λ current before after kept. tt }
-fault_ends (Line limit) some = record { once = refl; some = some_asked (Line limit) some; shorts = refl; settings = λ own. refl; place = λ own end. refl; written = λ settings own. tt; answer = tt; calm = λ is fails. absurd (cc); passes = λ before after. tt; kept = λ after. tt; holds = λ before after. tt; lines = λ newline. tt; blames = λ own far. tt; seeks = λ before. tt; moves = λ from to. tt; closes = λ current before after kept. tt }
+fault_ends (Characters None) some = record { once = refl; some = some_asked (Characters None) some; shorts = refl; settings = λ own. refl; place = λ own end. refl; written = λ settings own. tt; answer = tt; calm = λ is fails. absurd (cc); passes = λ before after. tt; kept = λ after. tt; holds = λ before after. tt; lines = λ newline. tt; blames = λ own far. tt; seeks = λ before some. tt; moves = λ from to. tt; closes = λ current before after kept. tt }
+fault_ends (Characters (Some size)) some = record { once = refl; some = some_asked (Characters (Some size)) some; shorts = refl; settings = λ own. refl; place = λ own end. refl; written = λ settings own. tt; answer = tt; calm = λ is fails. absurd (cc); passes = λ before after. tt; kept = λ after. tt; holds = λ before after. tt; lines = λ newline. tt; blames = λ own far. tt; seeks = λ before some. tt; moves = λ from to. tt; closes = λ current before after kept. tt }
+fault_ends (Line limit) some = record { once = refl; some = some_asked (Line limit) some; shorts = refl; settings = λ own. refl; place = λ own end. refl; written = λ settings own. tt; answer = tt; calm = λ is fails. absurd (cc); passes = λ before after. tt; kept = λ after. tt; holds = λ before after. tt; lines = λ newline. tt; blames = λ own far. tt; seeks = λ before some. tt; moves = λ from to. tt; closes = λ current before after kept. tt }
 
 memory_ends : (asked : Wanted) → asks_none asked ≡ false → Ends (call_of asked) (Refused fault.NoMemory) false
-memory_ends (Characters None) some = record { once = refl; some = some_asked (Characters None) some; shorts = refl; settings = λ own. refl; place = λ own end. refl; written = λ settings own. tt; answer = tt; calm = λ is fails. record { answer = tt; whole = refl }; passes = λ before after. tt; kept = λ after. tt; holds = λ before after. tt; lines = λ newline. tt; blames = λ own far. tt; seeks = λ before. tt; moves = λ from to. tt; closes = λ current before after kept. tt }
-memory_ends (Characters (Some size)) some = record { once = refl; some = some_asked (Characters (Some size)) some; shorts = refl; settings = λ own. refl; place = λ own end. refl; written = λ settings own. tt; answer = tt; calm = λ is fails. record { answer = tt; whole = refl }; passes = λ before after. tt; kept = λ after. tt; holds = λ before after. tt; lines = λ newline. tt; blames = λ own far. tt; seeks = λ before. tt; moves = λ from to. tt; closes = λ current before after kept. tt }
-memory_ends (Line limit) some = record { once = refl; some = some_asked (Line limit) some; shorts = refl; settings = λ own. refl; place = λ own end. refl; written = λ settings own. tt; answer = tt; calm = λ is fails. record { answer = tt; whole = refl }; passes = λ before after. tt; kept = λ after. tt; holds = λ before after. tt; lines = λ newline. tt; blames = λ own far. tt; seeks = λ before. tt; moves = λ from to. tt; closes = λ current before after kept. tt }
+memory_ends (Characters None) some = record { once = refl; some = some_asked (Characters None) some; shorts = refl; settings = λ own. refl; place = λ own end. refl; written = λ settings own. tt; answer = tt; calm = λ is fails. record { answer = tt; whole = refl }; passes = λ before after. tt; kept = λ after. tt; holds = λ before after. tt; lines = λ newline. tt; blames = λ own far. tt; seeks = λ before some. tt; moves = λ from to. tt; closes = λ current before after kept. tt }
+memory_ends (Characters (Some size)) some = record { once = refl; some = some_asked (Characters (Some size)) some; shorts = refl; settings = λ own. refl; place = λ own end. refl; written = λ settings own. tt; answer = tt; calm = λ is fails. record { answer = tt; whole = refl }; passes = λ before after. tt; kept = λ after. tt; holds = λ before after. tt; lines = λ newline. tt; blames = λ own far. tt; seeks = λ before some. tt; moves = λ from to. tt; closes = λ current before after kept. tt }
+memory_ends (Line limit) some = record { once = refl; some = some_asked (Line limit) some; shorts = refl; settings = λ own. refl; place = λ own end. refl; written = λ settings own. tt; answer = tt; calm = λ is fails. record { answer = tt; whole = refl }; passes = λ before after. tt; kept = λ after. tt; holds = λ before after. tt; lines = λ newline. tt; blames = λ own far. tt; seeks = λ before some. tt; moves = λ from to. tt; closes = λ current before after kept. tt }
 
 wants_nothing : (asked : Wanted) (reply : FileReply) (buffer : Buffer) → WantsMemory (call_of asked) reply buffer
 wants_nothing (Characters size) reply buffer = tt
@@ -171,16 +172,16 @@ accepted_here file true live = passes_accepted file true live
 accepted_here file false live = passes_accepted file false live
 
 wait_ends : (closes : Bool) → Ends (Passing closes) (Refused (fault.WouldBlock 0)) true
-wait_ends true = record { once = refl; some = refl; shorts = refl; settings = λ own. refl; place = λ own end. refl; written = λ settings own. tt; answer = (refl, refl); calm = λ is fails. absurd (cc); passes = λ before after. tt; kept = λ after. tt; holds = λ before after. tt; lines = λ newline. tt; blames = λ own far. tt; seeks = λ before. tt; moves = λ from to. tt; closes = λ current before after kept. tt }
-wait_ends false = record { once = refl; some = refl; shorts = refl; settings = λ own. refl; place = λ own end. refl; written = λ settings own. tt; answer = (refl, refl); calm = λ is fails. absurd (cc); passes = λ before after. tt; kept = λ after. tt; holds = λ before after. tt; lines = λ newline. tt; blames = λ own far. tt; seeks = λ before. tt; moves = λ from to. tt; closes = λ current before after kept. tt }
+wait_ends true = record { once = refl; some = refl; shorts = refl; settings = λ own. refl; place = λ own end. refl; written = λ settings own. tt; answer = (refl, refl); calm = λ is fails. absurd (cc); passes = λ before after. tt; kept = λ after. tt; holds = λ before after. tt; lines = λ newline. tt; blames = λ own far. tt; seeks = λ before some. tt; moves = λ from to. tt; closes = λ current before after kept. tt }
+wait_ends false = record { once = refl; some = refl; shorts = refl; settings = λ own. refl; place = λ own end. refl; written = λ settings own. tt; answer = (refl, refl); calm = λ is fails. absurd (cc); passes = λ before after. tt; kept = λ after. tt; holds = λ before after. tt; lines = λ newline. tt; blames = λ own far. tt; seeks = λ before some. tt; moves = λ from to. tt; closes = λ current before after kept. tt }
 
 passing_faults : (closes : Bool) → Ends (Passing closes) (Refused fault.RawFault) false
-passing_faults true = record { once = refl; some = refl; shorts = refl; settings = λ own. refl; place = λ own end. refl; written = λ settings own. tt; answer = tt; calm = λ is fails. absurd (cc); passes = λ before after. tt; kept = λ after. tt; holds = λ before after. tt; lines = λ newline. tt; blames = λ own far. tt; seeks = λ before. tt; moves = λ from to. tt; closes = λ current before after kept. kept.attached }
-passing_faults false = record { once = refl; some = refl; shorts = refl; settings = λ own. refl; place = λ own end. refl; written = λ settings own. tt; answer = tt; calm = λ is fails. absurd (cc); passes = λ before after. tt; kept = λ after. tt; holds = λ before after. tt; lines = λ newline. tt; blames = λ own far. tt; seeks = λ before. tt; moves = λ from to. tt; closes = λ current before after kept. tt }
+passing_faults true = record { once = refl; some = refl; shorts = refl; settings = λ own. refl; place = λ own end. refl; written = λ settings own. tt; answer = tt; calm = λ is fails. absurd (cc); passes = λ before after. tt; kept = λ after. tt; holds = λ before after. tt; lines = λ newline. tt; blames = λ own far. tt; seeks = λ before some. tt; moves = λ from to. tt; closes = λ current before after kept. kept.attached }
+passing_faults false = record { once = refl; some = refl; shorts = refl; settings = λ own. refl; place = λ own end. refl; written = λ settings own. tt; answer = tt; calm = λ is fails. absurd (cc); passes = λ before after. tt; kept = λ after. tt; holds = λ before after. tt; lines = λ newline. tt; blames = λ own far. tt; seeks = λ before some. tt; moves = λ from to. tt; closes = λ current before after kept. tt }
 
 passing_starves : (closes : Bool) → Ends (Passing closes) (Refused fault.NoMemory) false
-passing_starves true = record { once = refl; some = refl; shorts = refl; settings = λ own. refl; place = λ own end. refl; written = λ settings own. tt; answer = tt; calm = λ is fails. record { answer = tt; whole = refl }; passes = λ before after. tt; kept = λ after. tt; holds = λ before after. tt; lines = λ newline. tt; blames = λ own far. tt; seeks = λ before. tt; moves = λ from to. tt; closes = λ current before after kept. tt }
-passing_starves false = record { once = refl; some = refl; shorts = refl; settings = λ own. refl; place = λ own end. refl; written = λ settings own. tt; answer = tt; calm = λ is fails. record { answer = tt; whole = refl }; passes = λ before after. tt; kept = λ after. tt; holds = λ before after. tt; lines = λ newline. tt; blames = λ own far. tt; seeks = λ before. tt; moves = λ from to. tt; closes = λ current before after kept. tt }
+passing_starves true = record { once = refl; some = refl; shorts = refl; settings = λ own. refl; place = λ own end. refl; written = λ settings own. tt; answer = tt; calm = λ is fails. record { answer = tt; whole = refl }; passes = λ before after. tt; kept = λ after. tt; holds = λ before after. tt; lines = λ newline. tt; blames = λ own far. tt; seeks = λ before some. tt; moves = λ from to. tt; closes = λ current before after kept. tt }
+passing_starves false = record { once = refl; some = refl; shorts = refl; settings = λ own. refl; place = λ own end. refl; written = λ settings own. tt; answer = tt; calm = λ is fails. record { answer = tt; whole = refl }; passes = λ before after. tt; kept = λ after. tt; holds = λ before after. tt; lines = λ newline. tt; blames = λ own far. tt; seeks = λ before some. tt; moves = λ from to. tt; closes = λ current before after kept. tt }
 
 passing_life : (closes : Bool) (before after : Life) → after ≡ faulted_life closes → LifeMoves true (Passing closes) (Refused fault.RawFault) before after
 passing_life true before after is = is
@@ -224,7 +225,7 @@ passing_starved old new closes owes hands there takes (inr failed) joined =
 
 -- By what stopped the handing on.
 
-starved_life : (old new : WrittenView) → TakesNothing old new ⊎ ((new.life ≡ life.Failed) × (old.text.buffer.can.writable ≡ true) × FailedWithOwn (over_of old) (over_of new)) → (new.life ≡ life.Live) ⊎ ((new.life ≡ life.Failed) × FailedWithOwn (over_of old) (over_of new))
+pub starved_life : (old new : WrittenView) → TakesNothing old new ⊎ ((new.life ≡ life.Failed) × (old.text.buffer.can.writable ≡ true) × FailedWithOwn (over_of old) (over_of new)) → (new.life ≡ life.Live) ⊎ ((new.life ≡ life.Failed) × FailedWithOwn (over_of old) (over_of new))
 starved_life old new (inl nothing) = inl nothing.lives
 starved_life old new (inr failed) = inr (failed.0, failed.2)
 

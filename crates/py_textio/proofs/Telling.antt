@@ -6,6 +6,7 @@ use Rattle.py_flat.specs.declared.fault.IoFault.TheVariants as fault
 use Rattle.py_flat.specs.declared.life.Life.{Life}
 use Rattle.py_flat.specs.declared.life.Life.TheVariants as life
 use Rattle.py_flat.specs.Calls.{FileReply, Cookie, Refused}
+use Rattle.py_flat.specs.Limits.{greatest_place}
 use Rattle.py_flat.specs.Refusals.{life_fault}
 use Rattle.py_flat.specs.AllowedStep.{settled}
 use Rattle.py_plain.specs.Units.{Order}
@@ -45,16 +46,23 @@ record IsCookieOf (spot : Spot) (told : cookie.Cookie) : Type 0 where
   start : start_of told ≡ spot.start
   fed : fed_by told ≤ spot.length
   builds : is_buildable told ≡ true
+  flags : told.dec_flags ≡ pos 0
 
 cookie_of : (spot : Spot) → IsCookieOf spot (spot_cookie spot)
 cookie_of spot = by_none (nat_eq spot.skipped 0)
   where
     by_none : (none : Bool) → IsCookieOf spot (if none then boundary_cookie spot.start 0 else record { start_pos = pos spot.start; dec_flags = pos 0; bytes_to_feed = pos spot.length; chars_to_skip = pos spot.skipped; need_eof = true; bytes_to_skip = pos spot.skipped })
-    by_none true = record { start = refl; fed = omega arith; builds = refl }
-    by_none false = record { start = refl; fed = omega arith; builds = refl }
+    by_none true = record { start = refl; fed = omega arith; builds = refl; flags = refl }
+    by_none false = record { start = refl; fed = omega arith; builds = refl; flags = refl }
 
 builds_so : (shown : Told) (told : TextIOCookie) → cookie_shown told ≡ told_shown shown → is_buildable (cookie_shown told) ≡ true
 builds_so shown told is = ap is_buildable is ∙ (cookie_of (spot_shown shown)).builds
+
+flags_so : (shown : Told) (told : TextIOCookie) → cookie_shown told ≡ told_shown shown → (cookie_shown told).dec_flags ≡ pos 0
+flags_so shown told is = ap (λ (own : cookie.Cookie). own.dec_flags) is ∙ (cookie_of (spot_shown shown)).flags
+
+near_so : (shown : Told) (told : TextIOCookie) → cookie_shown told ≡ told_shown shown → shown.start ≤ greatest_place → start_of (cookie_shown told) ≤ greatest_place
+near_so shown told is near = omega (arith, near, ap start_of is, (cookie_of (spot_shown shown)).start)
 
 -- it stands within what was taken
 tells_within : (text : TextOver Buffer) (shown : Told) (told : TextIOCookie) → FieldsFit (cookie_shown told) → cookie_shown told ≡ told_shown shown → begins_at text.place ≤ shown.start → shown.start + shown.length ≤ behind_own text → TellsWithin (cookie_bytes (cookie_shown told)) text
@@ -89,6 +97,8 @@ tells_read now text pending room current shown told_here same live is none fit s
       told = λ tells. shows ∙ (told_is tells ∙ ap (λ (state : TextState). told (file_of state)) states);
       within = subst (λ (state : TextState). TellsWithin (cookie_bytes (cookie_shown told_here)) state.text) states (tells_within (read_of text) shown told_here fit shows forth (omega (arith, within)));
       builds = builds_so shown told_here shows;
+      flags = flags_so shown told_here shows;
+      near = near_so shown told_here shows (omega (arith, within, is.far));
     })
 
 -- one that owes some stands clean behind them
@@ -104,6 +114,8 @@ tells_behind text (byte ∷ more) room current start told_here is some fit shows
       told = λ tells. shows ∙ (ap (λ (at : ℕ). told_shown (behind_them at)) there ∙ told_clean (file_now view) stands.2 stands.0.taken);
       within = tells_within (over_of view) (behind_them start) told_here fit shows (subst (λ (front : Option Front). begins front (text.at + length (byte ∷ more)) ≤ start) (sym stands.2) (omega (arith, there))) (omega (arith, there, stands.1));
       builds = builds_so (behind_them start) told_here shows;
+      flags = flags_so (behind_them start) told_here shows;
+      near = near_so (behind_them start) told_here shows (omega (arith, there, stands.1, is.far));
     }
 
 pub tells_owed : (now : WrittenView) (text : TextView) (pending : List ℕ) (room : ℕ) (current : Life) (start : ℕ) (told_here : TextIOCookie) → view_of text pending room current ≡ now → IsWritten text pending current → pending ≢ [] → FieldsFit (cookie_shown told_here) → cookie_shown told_here ≡ told_shown (behind_them start) → start ≡ text.at + length pending → TellsPlace now told_here

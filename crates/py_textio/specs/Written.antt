@@ -1,5 +1,5 @@
 -- A text that is written: what it owes its buffer, and the steps of its calls.
-use Rattle.std.specs.Prelude.{◌≡◌, ◌≢◌, ℕ, ◌+◌, ◌-◌, ◌<◌, ◌≤◌, ◌⊎◌, Bool, true, false, IsTrue, List, [], ◌∷◌, ◌++◌, length, take, Option, Some, None, unwrap_or, Result, Ok, Err}
+use Rattle.std.specs.Prelude.{◌≡◌, ◌≢◌, ℕ, ◌+◌, ◌-◌, ◌<◌, ◌≤◌, ◌⊎◌, pos, Bool, true, false, IsTrue, List, [], ◌∷◌, ◌++◌, length, take, Option, Some, None, unwrap_or, Result, Ok, Err}
 use Rattle.py_flat.specs.declared.fault.IoFault.{IoFault}
 use Rattle.py_flat.specs.declared.fault.IoFault.TheVariants as fault
 use Rattle.py_flat.specs.declared.life.Life.{Life}
@@ -13,6 +13,7 @@ use Rattle.py_plain_text.specs.TextOver.{TextOver}
 use Rattle.py_plain_text.specs.declared.text_cookie.TextIOCookie.{TextIOCookie}
 use Rattle.py_plain_text.specs.Cookie.{cookie_bytes, is_buildable}
 use Rattle.py_plain_text.specs.CookieView.{cookie_shown}
+use Rattle.py_plain_text.specs.Landing.{start_of}
 use Rattle.py_plain_text.specs.Telling.{told}
 use Rattle.py_plain_text.specs.TextWriting.{writes_texts}
 use Rattle.py_raw.specs.RawStream.{AnswersFor}
@@ -73,12 +74,14 @@ pub record IsWritten (text : TextView) (pending : List ℕ) (current : Life) : T
 abbrev pub HasRoom : Buffer → List ℕ → ℕ → Type 0
 HasRoom buffer pending room = pending ≢ [] → unwrap_or (size_shown buffer.buffering) 0 ≤ room
 
--- Where a text tells that it stands: told, what the file that it stands for tells, by a cookie that can be built; and within what was taken
--- from the buffer, or what the text owes itself
+-- Where a text tells that it stands: told, what the file that it stands for tells, by a cookie that can be built, says no order and begins
+-- no further than a stream can stand; and within what was taken from the buffer, or what the text owes itself
 pub record TellsPlace (view : WrittenView) (cookie : TextIOCookie) : Type 0 where
   pub told : WhereShown view.text.buffer (cookie_shown cookie ≡ told (file_now view))
   pub within : TellsWithin (cookie_bytes (cookie_shown cookie)) (over_of view)
   pub builds : is_buildable (cookie_shown cookie) ≡ true
+  pub flags : (cookie_shown cookie).dec_flags ≡ pos 0
+  pub near : start_of (cookie_shown cookie) ≤ greatest_place
 
 -- Handing on what is owed.
 

@@ -2,7 +2,7 @@
 ghost use Rattle.std.specs.Prelude.{◌≡◌, ◌≢◌, ◌≤◌, ◌-◌, true, false, [], Some, None, chars, length, unwrap_or, vec_len, vec_capacity, if◌then◌else◌, IfOk};
 ghost use Rattle.py_flat.specs.Calls.{Refused};
 ghost use Rattle.py_flat.specs.ExactStep.{is_closed};
-ghost use Rattle.py_plain_text.specs.TextCalls.{Read, ReadLine, WriteText, Tell, SetChunkSize, Flush, Close, OtherKind};
+ghost use Rattle.py_plain_text.specs.TextCalls.{WriteText, SeekText, Tell, SetChunkSize, Flush, Close, OtherKind};
 ghost use Rattle.py_plain_text.specs.TextCalls as text_call;
 ghost use Rattle.py_plain_text.specs.Cookie.{is_buildable};
 ghost use Rattle.py_plain_text.specs.CookieView.{cookie_shown};
@@ -44,10 +44,17 @@ fn write_would_block(answer: &Result<usize, IoFault>) -> bool
     matches!(answer, Err(IoFault::WouldBlock { .. }))
 }
 
+/// Whether an answer to a seek says that the raw would have blocked.
+fn seek_would_block(answer: &Result<TextIOCookie, IoFault>) -> bool
+    ensures { result ≡ says_wait (cookie_reply answer.now) }
+{
+    matches!(answer, Err(IoFault::WouldBlock { .. }))
+}
+
 /// A text that has its buffer: a user's text as long as it isn't detached.
 #[derive(Debug, Drop)]
 pub(crate) struct AttachedText<B: BufferedStream> {
-    text: WrittenText<B>,
+    pub(crate) text: WrittenText<B>,
     short: bool,
 }
 
@@ -82,24 +89,6 @@ impl<B: BufferedStream> AttachedText<B> {
             text: WrittenText::new(alloc, ReadText::new(alloc, buffer, coder, settings, place)),
             short: false,
         })
-    }
-
-    /// Reads characters.
-    pub fn read(&mut self, alloc: Global, size: Option<usize>) -> Result<Option<String>, IoFault>
-        ensures { Answers self.old (Read size) (text_reply result) self.new }
-    {
-        self.take(alloc, Wanted::Characters(size))
-    }
-
-    /// Reads a line.
-    pub fn readline(
-        &mut self,
-        alloc: Global,
-        limit: Option<usize>,
-    ) -> Result<Option<String>, IoFault>
-        ensures { Answers self.old (ReadLine limit) (text_reply result) self.new }
-    {
-        self.take(alloc, Wanted::Line(limit))
     }
 
     /// Asks its buffer for n bytes at once from here on.
@@ -160,6 +149,30 @@ impl<B: BufferedStream> AttachedText<B> {
         self.short = false;
         match self.text.life() {
             Life::Live if self.text.seekable() => Ok(self.text.tell()),
+            Life::Live => Err(IoFault::Unsupported),
+            Life::Failed => Err(IoFault::Failed),
+            Life::Closed => Err(IoFault::Closed),
+            Life::Detached => Err(IoFault::Detached),
+        }
+    }
+
+    /// Puts it where a cookie says, by whence 0; where it stands, by 1; or at its end, by 2.
+    pub fn seek(
+        &mut self,
+        alloc: Global,
+        cookie: &[u8],
+        whence: i32,
+    ) -> Result<TextIOCookie, IoFault>
+        ensures answers { Answers self.old (SeekText cookie.now whence) (cookie_reply result) self.new }
+        ensures builds { IfOk result (λ cookie. is_buildable (cookie_shown cookie) ≡ true) }
+    {
+        self.short = false;
+        match self.text.life() {
+            Life::Live if self.text.is_movable() => {
+                let sought = self.text.seek(alloc, cookie, whence);
+                self.short = seek_would_block(&sought);
+                sought
+            }
             Life::Live => Err(IoFault::Unsupported),
             Life::Failed => Err(IoFault::Failed),
             Life::Closed => Err(IoFault::Closed),
@@ -238,41 +251,6 @@ impl<B: BufferedStream> AttachedText<B> {
         }
     }
 
-    /// Whether its buffer can be read.
-    pub fn readable(&self) -> bool
-        ensures { result ≡ self.now.text.buffer.can.readable }
-    {
-        self.text.readable()
-    }
-
-    /// Whether its buffer can be written.
-    pub fn writable(&self) -> bool
-        ensures { result ≡ self.now.text.buffer.can.writable }
-    {
-        self.text.writable()
-    }
-
-    /// Whether its buffer can be moved.
-    pub fn seekable(&self) -> bool
-        ensures { result ≡ self.now.text.buffer.can.seekable }
-    {
-        self.text.seekable()
-    }
-
-    /// Whether it was closed.
-    pub fn closed(&self) -> bool
-        ensures { result ≡ is_closed self.now.text.life }
-    {
-        matches!(self.text.life(), Life::Closed)
-    }
-
-    /// What became of it.
-    pub fn life(&self) -> Life
-        ensures { result ≡ self.now.text.life }
-    {
-        self.text.life()
-    }
-
     /// Whether a wait cut the last answer short.
     pub fn short(&self) -> bool
         ensures { result ≡ self.now.short }
@@ -301,22 +279,6 @@ impl<B: BufferedStream> AttachedText<B> {
         }
     }
 
-    /// The encoding of its bytes, and the handler of those that spell no character.
-    pub fn coder(&self) -> Coder
-        ensures encoding { result.encoding ≡ self.now.text.settings.encoding }
-        ensures errors { result.errors ≡ self.now.text.settings.handler }
-    {
-        self.text.coder()
-    }
-
-    /// The rule of its line ends, and how many bytes it asks its buffer for at once.
-    pub fn settings(&self) -> TextSettings
-        ensures newline { result.newline ≡ self.now.text.settings.newline }
-        ensures chunk { result.chunk_size ≡ self.now.text.settings.chunk_size }
-    {
-        self.text.settings()
-    }
-
     /// The buffer, the bytes that it hasn't, with room for as many more as it holds, and the place where they begin.
     pub fn into_parts(self) -> TextDetached<B>
         ensures buffer { B.shows result.buffer ≡ self.text.buffer }
@@ -335,15 +297,8 @@ impl<B: BufferedStream> AttachedText<B> {
         }
     }
 
-    /// The buffer, lent.
-    pub fn buffer(&self) -> &B
-        ensures { B.shows result.now ≡ self.now.text.buffer }
-    {
-        self.text.buffer()
-    }
-
     /// Takes what is wanted, unless the life refuses it, or the buffer can't be read.
-    fn take(&mut self, alloc: Global, wanted: Wanted) -> Result<Option<String>, IoFault>
+    pub fn take(&mut self, alloc: Global, wanted: Wanted) -> Result<Option<String>, IoFault>
         ensures { Answers self.old (call_of wanted) (text_reply result) self.new }
     {
         self.short = false;

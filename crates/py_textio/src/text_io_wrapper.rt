@@ -2,7 +2,7 @@
 ghost use Rattle.std.specs.Prelude.{◌≡◌, true, false, chars, IfOk, IfSome};
 ghost use Rattle.py_flat.specs.Calls.{Refused};
 ghost use Rattle.py_flat.specs.ExactStep.{is_closed};
-ghost use Rattle.py_plain_text.specs.TextCalls.{Read, ReadLine, WriteText, Tell, SetChunkSize, Flush, Close, OtherKind};
+ghost use Rattle.py_plain_text.specs.TextCalls.{Read, ReadLine, WriteText, SeekText, Tell, SetChunkSize, Flush, Close, OtherKind};
 ghost use Rattle.py_plain_text.specs.TextCalls as text_call;
 ghost use Rattle.py_plain_text.specs.Cookie.{is_buildable};
 ghost use Rattle.py_plain_text.specs.CookieView.{cookie_shown};
@@ -17,7 +17,7 @@ use crate::TextDetached;
 use crate::attached_text::AttachedText;
 use crate::text_left::TextLeft;
 use py_flat::{IoFault, Life};
-use py_held_text::Coder;
+use py_held_text::{Coder, Wanted};
 use py_plain::{Encoding, Handler, Newlines};
 use py_plain_text::TextIOCookie;
 use py_stream::{BufferedStream, NewRefused};
@@ -102,7 +102,7 @@ impl<B: BufferedStream> TextIOWrapper<B> {
         ensures { Answers self.old (Read size) (text_reply result) self.new }
     {
         match &mut self.attached {
-            Some(text) => text.read(alloc, size),
+            Some(text) => text.take(alloc, Wanted::Characters(size)),
             None => Err(IoFault::Detached),
         }
     }
@@ -118,7 +118,7 @@ impl<B: BufferedStream> TextIOWrapper<B> {
         ensures { Answers self.old (ReadLine limit) (text_reply result) self.new }
     {
         match &mut self.attached {
-            Some(text) => text.readline(alloc, limit),
+            Some(text) => text.take(alloc, Wanted::Line(limit)),
             None => Err(IoFault::Detached),
         }
     }
@@ -181,6 +181,30 @@ impl<B: BufferedStream> TextIOWrapper<B> {
     {
         match &mut self.attached {
             Some(text) => text.tell(),
+            None => Err(IoFault::Detached),
+        }
+    }
+
+    /// Puts the text where a cookie says, for whence 0; or, by a cookie of zeros or none, where it stands, for 1, or where its bytes end, for 2.
+    /// What was written is passed on first, and the cookie that it went by is answered. The text is clean then, but behind one that skips: that
+    /// puts it, dirty, inside the characters that stand for the range that it feeds, behind those skipped.
+    ///
+    /// `Unsupported` where the buffer can't be moved or appends, or by another cookie for whence 1 or 2; `BadWhence`; `InvalidCookie` for more
+    /// than 25 bytes, a negative field or an order: with all as it was. `CannotRestore` where a cookie that skips doesn't fit the bytes at its
+    /// start: the text stands there, clean. `WouldBlock`: the text stands where it stood, or, where the bytes fed were being read, clean at the
+    /// cookie's start; so too after `NoMemory`, there only over a raw that takes memory; where its buffer ran out while it took what was
+    /// written the text is failed.
+    pub fn seek(
+        &mut self,
+        alloc: Global,
+        cookie: &[u8],
+        whence: i32,
+    ) -> Result<TextIOCookie, IoFault>
+        ensures answers { Answers self.old (SeekText cookie.now whence) (cookie_reply result) self.new }
+        ensures builds { IfOk result (λ cookie. is_buildable (cookie_shown cookie) ≡ true) }
+    {
+        match &mut self.attached {
+            Some(text) => text.seek(alloc, cookie, whence),
             None => Err(IoFault::Detached),
         }
     }
@@ -250,7 +274,7 @@ impl<B: BufferedStream> TextIOWrapper<B> {
         ensures { result ≡ self.now.text.buffer.can.readable }
     {
         match &self.attached {
-            Some(text) => text.readable(),
+            Some(attached) => attached.text.readable(),
             None => self.left.readable,
         }
     }
@@ -260,7 +284,7 @@ impl<B: BufferedStream> TextIOWrapper<B> {
         ensures { result ≡ self.now.text.buffer.can.writable }
     {
         match &self.attached {
-            Some(text) => text.writable(),
+            Some(attached) => attached.text.writable(),
             None => self.left.writable,
         }
     }
@@ -270,7 +294,7 @@ impl<B: BufferedStream> TextIOWrapper<B> {
         ensures { result ≡ self.now.text.buffer.can.seekable }
     {
         match &self.attached {
-            Some(text) => text.seekable(),
+            Some(attached) => attached.text.seekable(),
             None => self.left.seekable,
         }
     }
@@ -280,7 +304,7 @@ impl<B: BufferedStream> TextIOWrapper<B> {
         ensures { result ≡ is_closed self.now.text.life }
     {
         match &self.attached {
-            Some(text) => text.closed(),
+            Some(attached) => matches!(attached.text.life(), Life::Closed),
             None => false,
         }
     }
@@ -290,7 +314,7 @@ impl<B: BufferedStream> TextIOWrapper<B> {
         ensures { result ≡ self.now.text.life }
     {
         match &self.attached {
-            Some(text) => text.life(),
+            Some(attached) => attached.text.life(),
             None => Life::Detached,
         }
     }
@@ -320,7 +344,7 @@ impl<B: BufferedStream> TextIOWrapper<B> {
         ensures { result ≡ self.now.text.settings.encoding }
     {
         match &self.attached {
-            Some(text) => text.coder().encoding,
+            Some(attached) => attached.text.coder().encoding,
             None => self.left.coder.encoding,
         }
     }
@@ -330,7 +354,7 @@ impl<B: BufferedStream> TextIOWrapper<B> {
         ensures { result ≡ self.now.text.settings.handler }
     {
         match &self.attached {
-            Some(text) => text.coder().errors,
+            Some(attached) => attached.text.coder().errors,
             None => self.left.coder.errors,
         }
     }
@@ -340,7 +364,7 @@ impl<B: BufferedStream> TextIOWrapper<B> {
         ensures { result ≡ self.now.text.settings.newline }
     {
         match &self.attached {
-            Some(text) => text.settings().newline,
+            Some(attached) => attached.text.settings().newline,
             None => self.left.settings.newline,
         }
     }
@@ -350,7 +374,7 @@ impl<B: BufferedStream> TextIOWrapper<B> {
         ensures { result ≡ self.now.text.settings.chunk_size }
     {
         match &self.attached {
-            Some(text) => text.settings().chunk_size,
+            Some(attached) => attached.text.settings().chunk_size,
             None => self.left.settings.chunk_size,
         }
     }
@@ -376,7 +400,7 @@ impl<B: BufferedStream> TextIOWrapper<B> {
         ensures { LendsBuffer B.shows self.now result }
     {
         match &self.attached {
-            Some(text) => Some(text.buffer()),
+            Some(attached) => Some(attached.text.buffer()),
             None => None,
         }
     }

@@ -1,25 +1,28 @@
 //! The text under a user's: it reads, and keeps what was written until its buffer takes it. Its calls are for a live text.
-ghost use Rattle.std.specs.Prelude.{◌≡◌, ◌≢◌, ◌+◌, ◌-◌, ◌<◌, ◌≤◌, ◌&&◌, Bool, true, false, None, [], ◌++◌, length, take, chars, vec_len, vec_capacity, OnOk, OnErr, IfErr};
+ghost use Rattle.std.specs.Prelude.{◌≡◌, ◌≢◌, ◌+◌, ◌-◌, ◌<◌, ◌≤◌, ◌&&◌, not, Bool, true, false, None, [], ◌++◌, length, take, chars, vec_len, vec_capacity, OnOk, OnErr, IfOk, IfErr, pos};
 ghost use Rattle.py_flat.specs.Limits.{greatest_place};
-ghost use Rattle.py_plain_text.specs.TextCalls.{WriteText, Flush, Close};
+ghost use Rattle.py_plain_text.specs.Cookie.{is_buildable};
+ghost use Rattle.py_plain_text.specs.CookieView.{cookie_shown};
+ghost use Rattle.py_plain_text.specs.TextCalls.{WriteText, SeekText, Flush, Close};
 ghost use Rattle.py_plain_text.specs.TextCalls as text_call;
 ghost use Rattle.py_plain_text.specs.TextRefusals.{changes_refusal};
 ghost use Rattle.py_text.specs.Settings.{changes_of};
 ghost use Rattle.py_plain_text.specs.TextWriting.{writes_texts, written_bytes, written_refusal};
 ghost use Rattle.py_flat.specs.Calls.{Refused};
-ghost use Rattle.py_stream.specs.Kinds.{says_wait, says_fault};
+ghost use Rattle.py_stream.specs.Kinds.{says_wait};
 ghost use Rattle.py_stream.specs.Replies.{count_reply, done_reply};
 ghost use Rattle.py_read_text.specs.Reading.{call_of, asks_none, reply_of, waited_in};
 ghost use Rattle.py_read_text.specs.Owing.{IsJoined, has_line_end};
 ghost use Rattle.py_read_text.specs.Knowing.{over_of as read_of};
-ghost use Rattle.py_read_text.specs.Answers.{Answers};
+ghost use Rattle.py_read_text.specs.Answers.{refused_here, Answers, cookie_reply};
+ghost use Rattle.py_textio.specs.Seeking.{CanMove, EndOutcome, CanSeekBy, AnswersSeeks};
 ghost use Rattle.py_textio.specs.Written.{over_of, state_of, file_now, place_now, HasRoom, StandsToWrite, SettleOutcome, stopped_reply, with_taken, RoomFor, TellsPlace, BackOutcome, PassOutcome, HandOutcome, KeepsOwed, HandsOnOnce};
 
 use py_flat::{IoFault, Life};
 use py_held_text::{Coder, Wanted, drop_front};
-use py_plain_text::TextIOCookie;
+use py_plain_text::{TextIOCookie, seek_fault};
 use py_raw::GREATEST_PLACE;
-use py_read_text::{Answer, ReadText};
+use py_read_text::{Answer, ReadText, is_raw_fault, is_wait};
 use py_stream::BufferedStream;
 use py_telling::Told;
 use py_text::{Reconfigure, TextSettings, is_of_stream};
@@ -53,20 +56,6 @@ fn with_taken(fault: IoFault, taken: u64) -> IoFault
         IoFault::WouldBlock { .. } => IoFault::WouldBlock { taken },
         other => other,
     }
-}
-
-/// Whether the raw would have blocked.
-fn is_wait(fault: IoFault) -> bool
-    ensures { result ≡ says_wait (Refused fault) }
-{
-    matches!(fault, IoFault::WouldBlock { .. })
-}
-
-/// Whether the raw failed.
-fn is_raw_fault(fault: IoFault) -> bool
-    ensures { result ≡ says_fault (Refused fault) }
-{
-    matches!(fault, IoFault::RawFault)
 }
 
 /// A text that reads, with the bytes that were written and that its buffer hasn't taken: they begin where the buffer stands.
@@ -138,6 +127,13 @@ impl<B: BufferedStream> WrittenText<B> {
         ensures { result ≡ self.now.text.buffer.can.seekable }
     {
         self.text.seekable()
+    }
+
+    /// Whether the text can be put elsewhere: where the buffer can be moved, and doesn't append.
+    pub fn is_movable(&self) -> bool
+        ensures { result ≡ (self.now.text.buffer.can.seekable && not self.now.text.buffer.can.appending) }
+    {
+        self.text.seekable() && !self.text.appending()
     }
 
     /// The settings, but for the encoding and the handler.
@@ -343,6 +339,110 @@ impl<B: BufferedStream> WrittenText<B> {
         let flushed = self.text.flush();
         self.life = self.text.life();
         flushed
+    }
+
+    /// Where the bytes of the text end: those of its buffer, or its own behind them. The text stays as it is.
+    fn bytes_end(&mut self) -> Result<u64, IoFault>
+        requires moves { CanMove self.old }
+        ensures outcome { EndOutcome self.old result self.new }
+        ensures joined { IsJoined (over_of self.new) }
+    {
+        let _ = &self.life;
+        match self.text.end() {
+            Ok(end) => {
+                if self.pending.is_empty() {
+                    return Ok(end);
+                }
+                Ok(end.max(self.text.at() + self.pending.len() as u64))
+            }
+            Err(fault) => {
+                self.life = self.text.life();
+                Err(fault)
+            }
+        }
+    }
+
+    /// Puts the text where a cookie says, where it stands or where its bytes end, by whence 0, 1 and 2, unless an argument refuses it.
+    pub fn seek(
+        &mut self,
+        alloc: Global,
+        cookie: &[u8],
+        whence: i32,
+    ) -> Result<TextIOCookie, IoFault>
+        requires moves { CanMove self.old }
+        ensures answers { Answers (state_of self.old false) (SeekText cookie.now whence) (cookie_reply result) (state_of self.new (says_wait (cookie_reply result))) }
+        ensures builds { IfOk result (λ cookie. is_buildable (cookie_shown cookie) ≡ true) }
+    {
+        let _ = self.life();
+        if let Some(fault) = seek_fault(&[], cookie, i64::from(whence)) {
+            return Err(fault);
+        }
+        match whence {
+            1 => {
+                let here = self.tell();
+                self.seek_to(alloc, here)
+            }
+            2 => self.seek_end(alloc, cookie),
+            _ => match TextIOCookie::parse(cookie) {
+                Some(goal) => self.seek_to(alloc, goal),
+                None => Err(IoFault::InvalidCookie),
+            },
+        }
+    }
+
+    /// Puts the text where its bytes end.
+    fn seek_end(&mut self, alloc: Global, cookie: &[u8]) -> Result<TextIOCookie, IoFault>
+        requires moves { CanMove self.old }
+        requires accepted { refused_here (file_now self.old) (SeekText cookie.now (pos 2)) ≡ None }
+        ensures answers { Answers (state_of self.old false) (SeekText cookie.now (pos 2)) (cookie_reply result) (state_of self.new (says_wait (cookie_reply result))) }
+        ensures builds { IfOk result (λ cookie. is_buildable (cookie_shown cookie) ≡ true) }
+    {
+        let _ = self.life();
+        match self.bytes_end() {
+            Ok(end) => {
+                let there = Told {
+                    start: end,
+                    length: 0,
+                    skipped: 0,
+                };
+                self.seek_to(alloc, there.cookie())
+            }
+            Err(fault) => Err(fault),
+        }
+    }
+
+    /// Puts the text where a cookie says, which it answers. What the text owes is handed to the buffer first.
+    fn seek_to(&mut self, alloc: Global, goal: TextIOCookie) -> Result<TextIOCookie, IoFault>
+        requires moves { CanMove self.old }
+        requires sound { CanSeekBy (cookie_shown goal) }
+        ensures answers { AnswersSeeks (state_of self.old false) (cookie_shown goal) (cookie_reply result) (state_of self.new (says_wait (cookie_reply result))) }
+        ensures goal { IfOk result (λ cookie. cookie ≡ goal) }
+    {
+        // What holds of every text is known from here on.
+        let _ = self.life();
+        if self.pending.is_empty() {
+            return self.seek_on(alloc, goal);
+        }
+        match self.settle() {
+            Ok(()) => self.seek_on(alloc, goal),
+            Err(fault) => Err(with_taken(fault, 0)),
+        }
+    }
+
+    /// Puts the text where a cookie says, of a text that owes nothing itself.
+    fn seek_on(&mut self, alloc: Global, goal: TextIOCookie) -> Result<TextIOCookie, IoFault>
+        requires moves { CanMove self.old }
+        requires none { self.old.pending ≡ [] }
+        requires sound { CanSeekBy (cookie_shown goal) }
+        ensures answers { AnswersSeeks (state_of self.old false) (cookie_shown goal) (cookie_reply result) (state_of self.new (says_wait (cookie_reply result))) }
+        ensures goal { IfOk result (λ cookie. cookie ≡ goal) }
+    {
+        let sought = self.text.seek_to(alloc, &goal);
+        self.life = self.text.life();
+        match sought {
+            Ok(()) => Ok(goal),
+            Err(fault) => Err(fault),
+        }
     }
 
     /// Hands the buffer what the text owes, and closes the buffer.

@@ -8,6 +8,6 @@ use Rattle.py_textio.proofs.text_io_wrapper.TextIOWrapper.readline.Goals.{in-Som
 
 pub returns : goal.returns
 returns g c = elim c.match-self.branch [
-  | in-Some w ↦ rw (← c.self.view_is, w.in-Some.is, w.result-is, w.self-inside-is) w.readline.ensures
+  | in-Some w ↦ rw (← c.self.view_is, w.in-Some.is, w.result-is, w.self-inside-is) w.take.ensures
   | in-None w ↦ rw (← c.self.view_is, w.result-is, w.self-inside-is, w.in-None.is) (detached_answers (can_of c.self.inside.left) (settings_of c.self.inside.left.coder c.self.inside.left.settings) (ReadLine c.args.limit) refl)
 ]
