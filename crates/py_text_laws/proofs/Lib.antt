@@ -2,3 +2,4 @@ pub mod Keeping
 pub mod ReadBack
 pub mod SoughtBack
 pub mod Unasked
+mod BroughtBack

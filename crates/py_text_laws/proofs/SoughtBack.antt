@@ -50,7 +50,7 @@ exact_told : (file : TextFile) → file.life ≡ life.Live → file.can.seekable
 exact_told file lives able = ap (answered file Tell) (free_to_tell file.life file.can.seekable lives able)
 
 -- what is answered with a cookie was not refused
-answered_free : (file : TextFile) (call : TextFileCall) (why : Option IoFault) (bytes : List ℕ) → (answered file call why).0 ≡ CookieReply bytes → why ≡ None
+pub answered_free : (file : TextFile) (call : TextFileCall) (why : Option IoFault) (bytes : List ℕ) → (answered file call why).0 ≡ CookieReply bytes → why ≡ None
 answered_free file call None bytes is = refl
 answered_free file call (Some fault) bytes is = absurd (cc)
 

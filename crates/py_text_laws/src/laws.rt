@@ -1,6 +1,7 @@
 ghost use Rattle.std.specs.Prelude.{◌≡◌, ℕ, true, false, pos, List, [], ◌∷◌, length, Some, None};
 ghost use Rattle.std.specs.List.{All};
 ghost use Rattle.std.specs.Char.{IsScalar};
+ghost use Rattle.py_flat.specs.declared.life.Life.TheVariants as life;
 ghost use Rattle.py_flat.specs.Calls.{Text, Count, Cookie};
 ghost use Rattle.py_plain.specs.declared.encoding.Encoding.{Encoding};
 ghost use Rattle.py_plain.specs.Units.{Order, Unknown};
@@ -10,12 +11,13 @@ ghost use Rattle.py_plain_text.specs.Rest.{text_rest};
 ghost use Rattle.py_plain_text.specs.Cookie.{cookie_bytes};
 ghost use Rattle.py_plain_text.specs.Telling.{placed, told};
 ghost use Rattle.py_plain_text.specs.TextWriting.{written_bytes, written_refusal};
-ghost use Rattle.py_plain_text.specs.TextCalls.{Read, WriteText, SeekText, Tell};
+ghost use Rattle.py_plain_text.specs.TextCalls.{TextFileCall, Read, WriteText, SeekText, Tell};
 ghost use Rattle.py_plain_text.specs.TextRefusals.{refusal};
 ghost use Rattle.py_plain_text.specs.TextExact.{exact};
-ghost use Rattle.py_plain_text.specs.TextExamples.{replies_of};
+ghost use Rattle.py_plain_text.specs.TextExamples.{replies_of, text_after};
 ghost use Rattle.py_plain_text.specs.CookieLaws.{StandsInText, LiesInReach};
 ghost use Rattle.py_codec.specs.Laws.{writes_runs};
+ghost use Rattle.py_text_laws.specs.Back.{only_move};
 ghost use Rattle.py_text_laws.specs.Written.{NeedsNoHandler, has_all, is_kept, rest_behind};
 
 /// A text that a file takes, written with no character that a handler had to replace, is what a reading of as many characters
@@ -57,4 +59,18 @@ pub fn texts_that_need_no_handler()
     ensures accepted { (file : TextFile) (text : List ℕ) → NeedsNoHandler file.settings.encoding text → written_refusal file.settings text ≡ None }
     ensures bytes { (file : TextFile) (text : List ℕ) → NeedsNoHandler file.settings.encoding text → is_kept file.settings.newline text ≡ true
         → text_bytes file.settings.encoding text ≡ Some (written_bytes file.settings text) }
+{}
+
+/// A cookie that a text told brings back what was left then, whatever was read, sought, flushed or asked in between, as long as its bytes, its
+/// settings and its life stay: the answer is that cookie (`reply`), and the same is left (`rest`). It holds of every place that calls leave a
+/// text in, behind cookies that nobody told too.
+///
+/// It does nothing: what it ensures is a law of the definitions.
+pub fn a_cookie_brings_back_the_rest()
+    ensures reply { (file : TextFile) (between : List TextFileCall) → StandsInText file → LiesInReach file → file.life ≡ life.Live
+        → file.can.seekable ≡ true → file.can.appending ≡ false → file.place.order ≡ Unknown → only_move between ≡ true
+        → (exact (text_after file between) (SeekText (cookie_bytes (told file)) (pos 0))).0 ≡ Cookie (cookie_bytes (told file)) }
+    ensures rest { (file : TextFile) (between : List TextFileCall) → StandsInText file → LiesInReach file → file.life ≡ life.Live
+        → file.can.seekable ≡ true → file.can.appending ≡ false → file.place.order ≡ Unknown → only_move between ≡ true
+        → text_rest (exact (text_after file between) (SeekText (cookie_bytes (told file)) (pos 0))).1 ≡ text_rest file }
 {}

@@ -9,5 +9,6 @@ mod laws;
 
 pub use examples::{other_texts_are_read_as_they_were_written, written_texts_are_read_back};
 pub use laws::{
-    a_written_text_is_read_back, a_written_text_is_sought_and_read, texts_that_need_no_handler,
+    a_cookie_brings_back_the_rest, a_written_text_is_read_back, a_written_text_is_sought_and_read,
+    texts_that_need_no_handler,
 };
