@@ -11,11 +11,12 @@ use Rattle.py_calls.specs.declared.call.Call.TheVariants as call
 use Rattle.py_calls.specs.declared.reply.Reply.{Reply}
 use Rattle.py_calls.specs.declared.reply.Reply.TheVariants as reply
 
--- a call of a text session; so far a text has no others
+-- a call of a text session; a text has no others
 abbrev pub text_call : Call → TextFileCall
 text_call (call.Read size) = text.Read size
 text_call (call.ReadLine limit) = text.ReadLine limit
 text_call (call.WriteText characters) = text.WriteText characters
+text_call (call.SeekText cookie whence) = text.SeekText cookie whence
 text_call call.Tell = text.Tell
 text_call (call.SetChunkSize size) = text.SetChunkSize size
 text_call (call.Reconfigure changes) = text.Reconfigure (changes_of changes)

@@ -9,7 +9,7 @@ use std::alloc::{AllocError, Global};
 ///
 /// Sizes, limits, hints and counts are bytes of a binary session and characters of a text one; `None` stands for one
 /// that isn't given. Places, offsets and the size of a truncation are bytes from the start of the stream. `Session::call`
-/// says which calls a session has so far; the others it refuses.
+/// says which calls a session has; the others it refuses.
 #[derive(Debug, PartialEq, Eq, Drop)]
 pub enum Call {
     /// Reads n, or all that are left.
@@ -34,7 +34,7 @@ pub enum Call {
     WriteText(Chars),
     /// Moves by an offset from the start (0), the place (1) or the end (2), which `Whence` names.
     Seek(i64, i32),
-    /// Moves a text to a cookie, or by whence 1 or 2.
+    /// Moves a text to where a cookie says (0); or, by zeros, to where it stands (1) or its bytes end (2).
     SeekText(Data, i32),
     /// Asks for the place, of a text for its cookie.
     Tell,

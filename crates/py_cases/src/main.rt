@@ -8,7 +8,6 @@ mod beside;
 mod block;
 mod flat_file;
 mod opened;
-mod own_calls;
 mod plain;
 mod program;
 mod report;

@@ -67,6 +67,11 @@ fn answer_text(alloc: Global, text: &mut TextSession<MemRaw>, call: &Call) -> Re
     let answer = match call {
         Call::Read(size) => text.read(alloc, *size),
         Call::ReadLine(limit) => text.readline(alloc, *limit),
+        Call::SeekText(cookie, whence) => {
+            return text
+                .seek(alloc, cookie.as_slice(), *whence)
+                .map_or_else(Reply::Refused, Reply::Cookie);
+        }
         Call::Tell => return text.tell().map_or_else(Reply::Refused, Reply::Cookie),
         Call::Close => return text.close().map_or_else(Reply::Refused, |()| Reply::Done),
         _ => return Reply::Refused(text.refuse()),

@@ -1,13 +1,13 @@
 //! The plain slow program's answers: of plain texts, and of units and first lines one by one.
 
 use crate::block::{Block, Line};
-use crate::own_calls::parse_call;
 use crate::report::Report;
 use anyhow::Result;
 use py_flat::IoFault;
 use py_open::{Call, Reply};
 use py_plain::{Encoding, Handler, Newlines, Unit, first_line, first_unit};
 use py_plain_text::{PlainSettings, PlainText};
+use py_script::parse_line;
 use std::alloc::Global;
 
 /// A plain text in UTF-8, of which no refused range is passed.
@@ -29,7 +29,7 @@ pub(crate) fn run_plain_block(block: &Block<'_>, report: &mut Report) -> Result<
             ("text", Some((rule, bytes))) => {
                 text = utf8_text(line.bytes(alloc, bytes)?, rule_of(line, rule)?);
             }
-            (">", _) => match parse_call(alloc, line.rest)? {
+            (">", _) => match parse_line(alloc, line.rest.as_bytes())? {
                 Some(call) => report.reply(&answer(alloc, &mut text, &call), false)?,
                 None => return line.malformed(),
             },
@@ -44,6 +44,9 @@ pub(crate) fn answer(alloc: Global, text: &mut PlainText, call: &Call) -> Reply 
     let answer = match call {
         Call::Read(size) => text.read(alloc, *size).map(Reply::Text),
         Call::ReadLine(limit) => text.readline(alloc, *limit).map(Reply::Text),
+        Call::SeekText(cookie, whence) => text
+            .seek(alloc, cookie.as_slice(), i64::from(*whence))
+            .map(Reply::Cookie),
         Call::Tell => text.tell(alloc).map(Reply::Cookie),
         Call::Close => text.close().map(|()| Reply::Done),
         _ => Err(IoFault::Unsupported),

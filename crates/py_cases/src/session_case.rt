@@ -1,10 +1,10 @@
 //! A session as a case has it: how it is opened, over which raw, and the calls that are made.
 
 use crate::block::Line;
-use crate::own_calls::parse_call;
 use anyhow::Result;
 use py_open::Call;
 use py_raw_memory::Cut;
+use py_script::parse_line;
 use std::alloc::Global;
 
 /// A session to be opened, and the calls on it.
@@ -57,7 +57,7 @@ impl<'a> SessionCase<'a> {
 
     fn take(&mut self, alloc: Global, line: Line<'a>) -> Result<()> {
         match line.word {
-            ">" => match parse_call(alloc, line.rest)? {
+            ">" => match parse_line(alloc, line.rest.as_bytes())? {
                 Some(call) => self.calls.push(call)?,
                 None => return line.malformed(),
             },

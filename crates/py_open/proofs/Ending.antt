@@ -1,11 +1,11 @@
 -- Calls that end something: what is passed on, and what a closed session answers.
-use Rattle.std.proofs.Common.{inl, ◌≡◌, ◌≢◌, pos, suc, zero, ℕ, Bool, true, false, IsTrue, List, [], ◌++◌, Option, Some, None, refl, sym, ap, ◌∙◌, subst}
+use Rattle.std.proofs.Common.{inl, inr, ◌≡◌, ◌≢◌, pos, suc, zero, ℕ, Bool, true, false, IsTrue, List, [], ◌++◌, length, Option, Some, None, refl, sym, ap, ◌∙◌, subst}
 use Rattle.py_flat.specs.declared.fault.IoFault.{IoFault}
 use Rattle.py_flat.specs.declared.fault.IoFault.TheVariants as fault
 use Rattle.py_flat.specs.declared.life.Life.{Life}
 use Rattle.py_flat.specs.declared.life.Life.TheVariants as life
 use Rattle.py_flat.specs.Bytes.{lay}
-use Rattle.py_flat.specs.Calls.{FileCall, Seek, Close, Flush, Detach, Readable, Writable, Seekable, Closed, OtherGetter, FileReply, Done, Count, Unwritten, Refused}
+use Rattle.py_flat.specs.Calls.{FileCall, Seek, Close, Flush, Detach, Readable, Writable, Seekable, Closed, OtherGetter, FileReply, Done, Count, Cookie, Unwritten, Refused}
 use Rattle.py_flat.specs.Owed.{Owed}
 use Rattle.py_flat.specs.Refusals.{is_getter}
 use Rattle.py_flat.specs.ExactStep.{is_closed}
@@ -14,6 +14,10 @@ use Rattle.py_plain_text.specs.TextFile.{TextSettings, TextFile}
 use Rattle.py_plain_text.specs.TextCalls as text
 use Rattle.py_plain_text.specs.TextCalls.{TextFileCall, tells_name}
 use Rattle.py_plain_text.specs.TextRefusals as refusals
+use Rattle.py_plain_text.specs.TextWriting.{written_bytes}
+use Rattle.py_plain_text.specs.Cookie as cookie
+use Rattle.py_plain_text.specs.Landing.{Landed, Stands, CantRestore, lands}
+use Rattle.py_plain_text.specs.TextExact.{sought_cookie, after_landing}
 use Rattle.py_plain_text.specs.TextAllowed as text_file
 use Rattle.py_plain_text.specs.TextAllowed.{TextFileStep}
 use Rattle.py_raw.specs.RawStream.{Raw, WhereTold, tells}
@@ -87,16 +91,19 @@ no_text_question : (settings : TextSettings) (call : TextFileCall) (reply : File
 no_text_question settings text.Flush reply asks all = let wrong : false ≡ true = asks in absurd (cc)
 no_text_question settings text.Close reply asks all = let wrong : false ≡ true = asks in absurd (cc)
 no_text_question settings text.Detach reply asks all = let wrong : false ≡ true = asks in absurd (cc)
+no_text_question settings (text.SeekText sought whence) reply asks all = let wrong : false ≡ true = asks in absurd (cc)
 no_text_question settings (text.WriteText written) reply asks all = let wrong : false ≡ true = asks in absurd (cc)
 no_text_question settings call reply asks all = all
 
--- a call that passes all on isn't refused
-not_refused : (settings : TextSettings) (call : TextFileCall) (reply : FileReply) (why : IoFault) → TextPassesAll settings call reply → reply ≡ Refused why → ⊥
-not_refused settings text.Flush Done why all is = cc
-not_refused settings text.Close Done why all is = cc
-not_refused settings text.Detach (Unwritten bytes place) why all is = cc
-not_refused settings (text.WriteText written) (Count count) why all is = cc
-not_refused settings call reply why all is = all
+-- a call that passes all on isn't refused, but by a cookie that doesn't fit
+not_refused : (settings : TextSettings) (call : TextFileCall) (reply : FileReply) (why : IoFault) → TextPassesAll settings call reply → why ≢ fault.CannotRestore → reply ≡ Refused why → ⊥
+not_refused settings text.Flush Done why all other is = cc
+not_refused settings text.Close Done why all other is = cc
+not_refused settings text.Detach (Unwritten bytes place) why all other is = cc
+not_refused settings (text.SeekText sought whence) (Cookie bytes) why all other is = cc
+not_refused settings (text.SeekText sought whence) (Refused fault.CannotRestore) why all other is = other (let same : why ≡ fault.CannotRestore = cc in same)
+not_refused settings (text.WriteText written) (Count count) why all other is = cc
+not_refused settings call reply why all other is = all
 
 -- the `detach` of a text leaves its bytes
 detached_bytes : (current : Life) (file : TextFile) (reply : FileReply) (after : TextFile) → text_file.DetachesIn current file reply after → after.bytes ≡ file.bytes
@@ -105,32 +112,48 @@ detached_bytes life.Live file reply after is = ap (λ (p : FileReply × TextFile
 detached_bytes life.Closed file reply after is = ap (λ (p : FileReply × TextFile). p.1.bytes) is
 detached_bytes life.Detached file reply after is = ap (λ (p : FileReply × TextFile). p.1.bytes) is
 
+-- so does a seek
+landed_bytes : (file : TextFile) (goal : cookie.Cookie) (landed : Landed) → (after_landing file goal landed).1.bytes ≡ file.bytes
+landed_bytes file goal (Stands place) = refl
+landed_bytes file goal (CantRestore place) = refl
+
 settled_bytes : (file : TextFile) (call : TextFileCall) (reply : FileReply) (after : TextFile) (refused : Option IoFault) → TextPassesAll file.settings call reply → text_file.SettledBy file call refused reply after → after.bytes ≡ text_left file call
-settled_bytes file call reply after (Some why) all is = absurd (not_refused file.settings call reply why all is.0)
+settled_bytes file (text.SeekText sought whence) reply after (Some why) all is = ap (λ (f : TextFile). f.bytes) is.1
+settled_bytes file text.Flush Done after (Some why) all is = let wrong : Done ≡ Refused why = is.0 in absurd (cc)
+settled_bytes file text.Close Done after (Some why) all is = let wrong : Done ≡ Refused why = is.0 in absurd (cc)
+settled_bytes file text.Detach (Unwritten bytes place) after (Some why) all is = let wrong : Unwritten bytes place ≡ Refused why = is.0 in absurd (cc)
+settled_bytes file (text.WriteText written) (Count count) after (Some why) all is = let wrong : Count count ≡ Refused why = is.0 in absurd (cc)
 settled_bytes file text.Flush Done after None all is = ap (λ (p : FileReply × TextFile). p.1.bytes) is
 settled_bytes file text.Close Done after None all is = ap (λ (p : FileReply × TextFile). p.1.bytes) is
 settled_bytes file text.Detach (Unwritten bytes place) after None all is = detached_bytes file.life file (Unwritten bytes place) after is
+settled_bytes file (text.SeekText sought whence) reply after None all is =
+    let goal = sought_cookie file sought whence in
+    ap (λ (p : FileReply × TextFile). p.1.bytes) is ∙ landed_bytes file goal (lands file goal)
 settled_bytes file (text.WriteText written) (Count count) after None all is = ap (λ (p : FileReply × TextFile). p.1.bytes) is
-settled_bytes file call reply after None all is = absurd all
+settled_bytes file call reply after refused all is = absurd all
 
 waited_none : (file : TextFile) (call : TextFileCall) (reply : FileReply) (after : TextFile) → TextPassesAll file.settings call reply → text_file.WaitedBy file call reply after → ⊥
-waited_none file text.Flush Done after all part = not_refused file.settings text.Flush Done _ all part.0
-waited_none file text.Close Done after all part = not_refused file.settings text.Close Done _ all part.0
-waited_none file text.Detach (Unwritten bytes place) after all part = not_refused file.settings text.Detach (Unwritten bytes place) _ all part.0
-waited_none file (text.WriteText written) (Count count) after all part = not_refused file.settings (text.WriteText written) (Count count) _ all part.0
+waited_none file text.Flush Done after all part = not_refused file.settings text.Flush Done (fault.WouldBlock 0) all (λ same. cc) part.0
+waited_none file text.Close Done after all part = not_refused file.settings text.Close Done (fault.WouldBlock 0) all (λ same. cc) part.0
+waited_none file text.Detach (Unwritten bytes place) after all part = not_refused file.settings text.Detach (Unwritten bytes place) (fault.WouldBlock 0) all (λ same. cc) part.0
+waited_none file (text.SeekText sought whence) reply after all (inl part) = not_refused file.settings (text.SeekText sought whence) reply (fault.WouldBlock 0) all (λ same. cc) part.0
+waited_none file (text.SeekText sought whence) reply after all (inr part) = not_refused file.settings (text.SeekText sought whence) reply (fault.WouldBlock 0) all (λ same. cc) part.1
+waited_none file (text.WriteText written) (Count count) after all part = not_refused file.settings (text.WriteText written) (Count count) (fault.WouldBlock (length (written_bytes file.settings written))) all (λ same. cc) part.0
 waited_none file call reply after all part = all
 
 -- what a text has that passed all on
 left_bytes : (file : TextFile) (call : TextFileCall) (reply : FileReply) (waited faulted : Bool) (after : TextFile) → TextPassesAll file.settings call reply → TextFileStep file call reply waited faulted after → after.bytes ≡ text_left file call
 left_bytes file call reply waited faulted after all (settled exact) = settled_bytes file call reply after (refusals.refusal file call) all exact
 left_bytes file call reply waited faulted after all (waited_for rose part) = absurd (waited_none file call reply after all part.1)
-left_bytes file call reply waited faulted after all (raw_faulted rose says left) = absurd (not_refused file.settings call reply fault.RawFault all says)
-left_bytes file call reply waited faulted after all (out_of_memory says left) = absurd (not_refused file.settings call reply fault.NoMemory all says)
+left_bytes file call reply waited faulted after all (raw_faulted rose says left) = absurd (not_refused file.settings call reply fault.RawFault all (λ same. cc) says)
+left_bytes file call reply waited faulted after all (out_of_memory says left) = absurd (not_refused file.settings call reply fault.NoMemory all (λ same. cc) says)
 
 text_passed_on : (before : TextState) (call : TextFileCall) (reply : FileReply) (after : TextState) → over.Answers before call reply after → before.text.life ≡ life.Live → TextPassesAll before.text.settings call reply → IsPassedOn after
 text_passed_on before text.Flush Done after step live all = step.passes
 text_passed_on before text.Close Done after step live all = step.passes live
 text_passed_on before text.Detach (Unwritten bytes place) after step live all = step.passes live
+text_passed_on before (text.SeekText sought whence) (Cookie bytes) after step live all = step.passes
+text_passed_on before (text.SeekText sought whence) (Refused fault.CannotRestore) after step live all = step.passes
 text_passed_on before (text.WriteText written) (Count count) after step live all = step.passes all.0 all.1
 text_passed_on before call reply after step live all = absurd all
 
@@ -146,7 +169,7 @@ unsupported_write file written live reads = rw (live, reads) refl
 -- a text that isn't written has its raw's bytes, whatever call it answered
 text_spared : (before : TextState) (call : TextFileCall) (reply : FileReply) (after : TextState) → over.Answers before call reply after → before.text.buffer.can.writable ≡ false → OwesNothing before → before.text.life ≡ life.Live → TextPassesAll before.text.settings call reply → IsTrue before.text.buffer.raw.tells_bytes → after.text.buffer.raw.bytes ≡ text_left (state.file_of before) call
 text_spared before (text.WriteText written) reply after step reads none live all tells =
-    absurd (not_refused before.text.settings (text.WriteText written) reply fault.Unsupported all (step.refused fault.Unsupported (unsupported_write (state.file_of before) written live reads)).says)
+    absurd (not_refused before.text.settings (text.WriteText written) reply fault.Unsupported all (λ same. cc) (step.refused fault.Unsupported (unsupported_write (state.file_of before) written live reads)).says)
 text_spared before call reply after step reads none live all tells = (step.spares reads none.none).bytes tells ∙ sym (owing_none_bytes before none)
 
 text_shown : (writes : Bool) (before : TextState) (call : TextFileCall) (reply : FileReply) (after : TextState) → before.text.buffer.can.writable ≡ writes → over.Answers before call reply after → IsInStep (TextSession before) → before.text.life ≡ life.Live → TextPassesAll before.text.settings call reply → ShownBy writes before.text.buffer.raw (after.text.buffer.raw.bytes ≡ text_left (state.file_of before) call)

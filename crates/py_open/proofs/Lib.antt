@@ -13,3 +13,4 @@ pub mod OpenedRaw
 pub mod OpenedFile
 pub mod IoOpening
 pub mod Sizes
+pub mod Back

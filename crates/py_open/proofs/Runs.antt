@@ -14,7 +14,9 @@ use Rattle.py_plain_text.specs.TextCalls as text
 use Rattle.py_plain_text.specs.TextRefusals as refusals
 use Rattle.py_plain_text.specs.Rest.{text_rest}
 use Rattle.py_plain_text.specs.TextStep.{range_refusal, asks_past, asks_any, after_taking, after_text_read, answered_text}
-use Rattle.py_plain_text.specs.TextExact.{carried_out, answered, exact}
+use Rattle.py_plain_text.specs.Cookie as cookie
+use Rattle.py_plain_text.specs.Landing.{Landed, Stands, CantRestore, lands}
+use Rattle.py_plain_text.specs.TextExact.{carried_out, answered, exact, sought_cookie, after_landing}
 use Rattle.py_plain_text.specs.TextAllowed as text_file
 use Rattle.py_raw.specs.RawStream.{Raw, Keeps, tells, AnswersFor}
 use Rattle.py_raw.proofs.Telling.{keeps_same, tells_still}
@@ -187,6 +189,10 @@ read_none : (refused : Option IoFault) (file : TextFile) (characters : List ℕ)
 read_none None file characters after = refl
 read_none (Some why) file characters after = refl
 
+landed_none : (file : TextFile) (sought : cookie.Cookie) (landed : Landed) → unwritten_in (after_landing file sought landed).0 ≡ []
+landed_none file sought (Stands place) = refl
+landed_none file sought (CantRestore place) = refl
+
 carried_none : (file : TextFile) (made : Call) → unwritten_in (carried_out file (text_call made)).0 ≡ []
 carried_none file (call.Read size) =
     let rest = text_rest file in
@@ -195,6 +201,7 @@ carried_none file (call.ReadLine limit) =
     let rest = text_rest file in
     let end = line_end file.settings.newline in
     read_none (range_refusal (not (is_ended end limit rest.characters)) rest.refusal) file (first_line end limit rest.characters) (after_taking file (length (first_line end limit rest.characters)) (asks_any limit))
+carried_none file (call.SeekText bytes whence) = let sought = sought_cookie file bytes whence in landed_none file sought (lands file sought)
 carried_none file made = refl
 
 answered_none : (refused : Option IoFault) (file : TextFile) (made : Call) → unwritten_in (answered file (text_call made) refused).0 ≡ []
@@ -204,6 +211,10 @@ answered_none (Some why) file made = refl
 read_lives : (refused : Option IoFault) (file : TextFile) (characters : List ℕ) (after : TextFile) → file.life ≢ life.Failed → after.life ≡ file.life → (answered_text file refused characters after).1.life ≢ life.Failed
 read_lives None file characters after lives same = λ failed. lives (sym same ∙ failed)
 read_lives (Some why) file characters after lives same = lives
+
+landed_lives : (file : TextFile) (sought : cookie.Cookie) (landed : Landed) → file.life ≢ life.Failed → (after_landing file sought landed).1.life ≢ life.Failed
+landed_lives file sought (Stands place) lives = lives
+landed_lives file sought (CantRestore place) lives = lives
 
 carried_lives : (file : TextFile) (made : Call) → file.life ≢ life.Failed → (carried_out file (text_call made)).1.life ≢ life.Failed
 carried_lives file (call.Read None) lives =
@@ -216,6 +227,7 @@ carried_lives file (call.ReadLine limit) lives =
     let rest = text_rest file in
     let end = line_end file.settings.newline in
     read_lives (range_refusal (not (is_ended end limit rest.characters)) rest.refusal) file (first_line end limit rest.characters) (after_taking file (length (first_line end limit rest.characters)) (asks_any limit)) lives refl
+carried_lives file (call.SeekText bytes whence) lives = let sought = sought_cookie file bytes whence in landed_lives file sought (lands file sought) lives
 carried_lives file call.Close lives = λ failed. absurd (cc)
 carried_lives file call.Detach lives = λ failed. absurd (cc)
 carried_lives file made lives = lives

@@ -1,14 +1,19 @@
 -- What holds of whole runs, whatever raw is below.
-use Rattle.std.specs.Prelude.{◌≡◌, ◌≢◌, ◌⊎◌, Bool, true, false, IsTrue, ℕ, List, [], ◌∷◌, Option, None, is_some}
+use Rattle.std.specs.Prelude.{◌≡◌, ◌≢◌, ◌⊎◌, ◌≤◌, Bool, true, false, IsTrue, ℕ, List, [], ◌∷◌, length, Option, None, is_some}
 use Rattle.py_flat.specs.declared.fault.IoFault.TheVariants as fault
 use Rattle.py_flat.specs.declared.life.Life.{Life}
 use Rattle.py_flat.specs.declared.life.Life.TheVariants as life
-use Rattle.py_flat.specs.Calls.{FileCall, FileReply, Done, Count, Unwritten, Refused}
+use Rattle.py_flat.specs.Calls.{FileCall, FileReply, Done, Count, Cookie, Unwritten, Refused}
 use Rattle.py_flat.specs.Calls as file
 use Rattle.py_flat.specs.FlatFile.{Buffered, FlatFile}
+use Rattle.py_flat.specs.Limits.{greatest_place}
 use Rattle.py_flat.specs.Refusals.{is_getter}
 use Rattle.py_plain.specs.Units.{Unknown}
 use Rattle.py_plain_text.specs.TextFile.{TextSettings, TextFile, clean_at}
+use Rattle.py_plain_text.specs.Rest.{text_rest}
+use Rattle.py_plain_text.specs.declared.text_cookie.TextIOCookie.{TextIOCookie}
+use Rattle.py_plain_text.specs.Cookie.{cookie_bytes}
+use Rattle.py_plain_text.specs.CookieView.{cookie_shown}
 use Rattle.py_plain_text.specs.TextCalls as text
 use Rattle.py_plain_text.specs.TextCalls.{TextFileCall, tells_name}
 use Rattle.py_plain_text.specs.TextRefusals.{refusal}
@@ -115,6 +120,22 @@ pub record IsSmoothRun (before : SessionView) (calls : List Call) (replies : Lis
   pub smooth : IsSmooth (raw_of before) (raw_of after)
   pub memory : NoneLacksMemory (all_said replies)
 
+-- Going back to where a text told.
+
+-- a text may go back to where another told: it is live, doesn't append, and has its settings and its bytes, which are no more than a stream
+-- can have
+pub record GoesBackFrom (was now : TextState) : Type 0 where
+  pub live : now.text.life ≡ life.Live
+  pub forward : now.text.buffer.can.appending ≡ false
+  pub settings : now.text.settings ≡ was.text.settings
+  pub bytes : (state.file_of now).bytes ≡ (state.file_of was).bytes
+  pub reach : length (state.file_of was).bytes ≤ greatest_place
+
+-- it went back: it answers the cookie, and has left what was left where that was told
+pub record IsBack (was : TextState) (told : TextIOCookie) (reply : Reply) (after : TextState) : Type 0 where
+  pub says : said reply ≡ Cookie (cookie_bytes (cookie_shown told))
+  pub rest : text_rest (state.file_of after) ≡ text_rest (state.file_of was)
+
 -- Histories, and runs in parts.
 
 -- a run as a history: the same calls and replies, with the marks of the run, from file to file
@@ -199,11 +220,14 @@ FilePassesAll file.Close Done = Unit {0}
 FilePassesAll file.Detach (Unwritten bytes place) = Unit {0}
 FilePassesAll call reply = ⊥
 
--- of a live text: a `flush`, a `close` or a `detach` that was done, and with line buffering an answered write of a text with a line end
+-- of a live text: a `flush`, a `close` or a `detach` that was done, a seek that was answered or whose cookie doesn't fit, and with line
+-- buffering an answered write of a text with a line end
 abbrev pub TextPassesAll : TextSettings → TextFileCall → FileReply → Type 0
 TextPassesAll settings text.Flush Done = Unit {0}
 TextPassesAll settings text.Close Done = Unit {0}
 TextPassesAll settings text.Detach (Unwritten bytes place) = Unit {0}
+TextPassesAll settings (text.SeekText sought whence) (Cookie bytes) = Unit {0}
+TextPassesAll settings (text.SeekText sought whence) (Refused fault.CannotRestore) = Unit {0}
 TextPassesAll settings (text.WriteText written) (Count count) = (settings.line_buffering ≡ true) × (has_line_end written ≡ true)
 TextPassesAll settings call reply = ⊥
 

@@ -1,18 +1,23 @@
 //! Laws of the definitions that the contracts cite: what any run of a session has to be.
 //!
 //! No function here does anything; what each ensures is a law.
-ghost use Rattle.std.specs.Prelude.{◌≡◌, ◌≢◌, ◌≤◌, ℕ, true, IsTrue, List, [], ◌∷◌, ◌++◌, length};
+ghost use Rattle.std.specs.Prelude.{◌≡◌, ◌≢◌, ◌≤◌, ℕ, pos, true, IsTrue, List, [], ◌∷◌, ◌++◌, length};
 ghost use Rattle.py_flat.specs.declared.life.Life.TheVariants as life;
-ghost use Rattle.py_flat.specs.Calls.{FileReply};
+ghost use Rattle.py_flat.specs.Calls.{FileReply, Refused};
+ghost use Rattle.py_flat.specs.declared.fault.IoFault.TheVariants as fault;
 ghost use Rattle.py_plain_text.specs.TextFile.{TextFile};
+ghost use Rattle.py_plain_text.specs.declared.text_cookie.TextIOCookie.{TextIOCookie};
+ghost use Rattle.py_plain_text.specs.Cookie.{cookie_bytes};
+ghost use Rattle.py_plain_text.specs.CookieView.{cookie_shown};
+ghost use Rattle.py_read_text.specs.TextState.{TextState};
 ghost use Rattle.py_raw.specs.RawStream.{Raw, Keeps, AnswersFor, tells};
 ghost use Rattle.py_stream.specs.Answers.{ClosedWith};
 ghost use Rattle.py_calls.specs.declared.call.Call.{Call};
-ghost use Rattle.py_calls.specs.declared.call.Call.TheVariants.{Close};
+ghost use Rattle.py_calls.specs.declared.call.Call.TheVariants.{Close, SeekText, Tell};
 ghost use Rattle.py_calls.specs.declared.reply.Reply.{Reply};
-ghost use Rattle.py_calls.specs.declared.reply.Reply.TheVariants.{Done};
+ghost use Rattle.py_calls.specs.declared.reply.Reply.TheVariants.{Cookie, Done};
 ghost use Rattle.py_calls.specs.Calls.{said};
-ghost use Rattle.py_open.specs.Session.{SessionFile, OfText, SessionView, Answers, IsInStep, HasOpenRaw, file_seen, raw_of, life_of, life_in, bytes_in, SessionStep};
+ghost use Rattle.py_open.specs.Session.{SessionFile, OfText, SessionView, TextSession, Answers, IsInStep, HasOpenRaw, file_seen, raw_of, life_of, life_in, bytes_in, SessionStep};
 ghost use Rattle.py_mode.specs.declared.plan.OpenPlan.{OpenPlan};
 ghost use Rattle.py_flat.specs.declared.fault.IoFault.{IoFault};
 ghost use Rattle.py_raw.specs.Opener.{OpenerView, Opens, IsOpened, opened_bytes};
@@ -21,7 +26,7 @@ ghost use Rattle.py_open.specs.Opening.{OpensSession, RefusesSession};
 ghost use Rattle.py_open.specs.OpenedFile.{opened_file};
 ghost use Rattle.py_open.specs.Paths.{raw_mode, RefusesOrLacks};
 ghost use Rattle.py_open.specs.Run.{Entry, IsRun, IsHistory, IsCalm, IsSmooth, NoneLacksMemory, AllSettle, all_said, calls_of, replies_of};
-ghost use Rattle.py_open.specs.Laws.{AlikeButSizes, NoneTellsSize, is_text, IsSmoothRun, IsExact, KnowsAnswers, HasHistory, RunsInTwo, RunsComplete, KeepsSettings, OnlyReads, PassesAll, HoldsFlat, StaysClosed, StaysDetached, FileStaysDetached};
+ghost use Rattle.py_open.specs.Laws.{AlikeButSizes, NoneTellsSize, is_text, IsSmoothRun, IsExact, KnowsAnswers, HasHistory, RunsInTwo, RunsComplete, GoesBackFrom, IsBack, KeepsSettings, OnlyReads, PassesAll, HoldsFlat, StaysClosed, StaysDetached, FileStaysDetached};
 
 /// A run over a raw that tells, in which no count of the raw rose and no call ran out of memory, is the model's: there is a flat
 /// file between any two calls, and each reply is what the file there answers, exactly, but that a single transfer gives some front
@@ -78,6 +83,14 @@ pub fn a_calm_history_settles()
     ensures { (before : SessionFile) (entries : List Entry) (after : SessionFile) → IsHistory before entries after → IsCalm entries → AllSettle before (calls_of entries) (all_said (replies_of entries)) after }
 {}
 
+/// A text goes back to where it told. In a run of a text session from its opening over a raw that tells, whatever came in between, a
+/// `SeekText` by the cookie that a `Tell` answered puts the text where the same is left as at that `Tell`, and answers that cookie: where the
+/// text is live then, has its bytes and settings as they were, and no more bytes than a stream can have, and where in this call no count of
+/// the raw rose and memory sufficed. Not said is it of a text that appends, which isn't put anywhere.
+pub fn a_text_goes_back_to_where_it_told()
+    ensures { (plan : OpenPlan) (raw : Raw) (opened : SessionView) (was told now after : TextState) (front between : List Call) (replies others : List Reply) (cookie : TextIOCookie) (reply : Reply) → IsPlanned plan → OpensSession raw plan opened → IsTrue (tells (raw_of opened)) → IsRun opened front replies (TextSession was) → Answers (TextSession was) Tell (Cookie cookie) (TextSession told) → IsRun (TextSession told) between others (TextSession now) → GoesBackFrom was now → Answers (TextSession now) (SeekText (cookie_bytes (cookie_shown cookie)) (pos 0)) reply (TextSession after) → IsSmooth (raw_of (TextSession now)) (raw_of (TextSession after)) → said reply ≢ Refused fault.NoMemory → IsBack was cookie reply after }
+{}
+
 /// A run has one reply for each call.
 pub fn a_run_answers_each_call()
     ensures { (before : SessionView) (calls : List Call) (replies : List Reply) (after : SessionView) → IsRun before calls replies after → length replies ≡ length calls }
@@ -103,9 +116,10 @@ pub fn a_session_that_reads_spares_the_bytes()
     ensures bytes { (before : SessionView) (calls : List Call) (replies : List Reply) (after : SessionView) → IsRun before calls replies after → OnlyReads before → IsTrue (raw_of before).tells_bytes → (raw_of after).bytes ≡ (raw_of before).bytes }
 {}
 
-/// What is passed on is in the raw: after a `flush`, a `close` or a `detach` of a live session that was done, and with line buffering after
-/// an answered write of a text with a line end, nothing is owed, and the raw holds the flat bytes of the session that the call came to,
-/// with those of the write; of a text that isn't written also where it tells its bytes alone.
+/// What is passed on is in the raw: after a `flush`, a `close` or a `detach` of a live session that was done, a seek of a text that was
+/// answered, or whose cookie didn't fit, and with line buffering after an answered write of a text with a line end, nothing is owed, and the
+/// raw holds the flat bytes of the session that the call came to, with those of the write; of a text that isn't written also where it tells
+/// its bytes alone.
 ///
 /// For this the session is in step with its raw: only one that writes through a buffer owes anything. So it is where a session opens, and
 /// over every run.
@@ -148,9 +162,9 @@ pub fn a_done_close_closes_its_raw()
     ensures opened { (raw : Raw) (plan : OpenPlan) (opened session : SessionView) (calls : List Call) (replies : List Reply) → OpensSession raw plan opened → IsRun opened calls replies session → HasOpenRaw session }
 {}
 
-/// A run from a closed session answers `Done` to each further `Close`, the questions as ever, and refuses every other call, by
-/// `Closed` but for the questions that a stream lacks, and the name of an encoding or a handler for want of memory; it leaves the file and the raw as they were, whether the raw tells or not
-/// (Python's documentation of `close`).
+/// A run from a closed session answers `Done` to each further `Close`, the questions as ever, and refuses every other call, by `Closed` but
+/// for the questions that a stream lacks, and the name of an encoding or a handler for want of memory; it leaves the file and the raw as they
+/// were, whether the raw tells or not (Python's documentation of `close`).
 pub fn a_closed_session_stays_closed()
     ensures { (before : SessionView) (calls : List Call) (replies : List Reply) (after : SessionView) → IsRun before calls replies after → life_of before ≡ life.Closed → StaysClosed before calls replies after }
 {}

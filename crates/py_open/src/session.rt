@@ -51,9 +51,9 @@ impl<R: RawStream> Session<R> {
     /// A session as it is planned, over a raw that is opened for it. It begins where the raw stands, one that appends at the
     /// end, to which a raw that can seek is moved; one that can't stands at place 0.
     ///
-    /// Refused, the raw is handed back with nothing read or written: `Closed`, then `Unsupported` where it can't do what it is
-    /// opened for (one that is both read and written through a buffer has to seek), `NoMemory`, and `RawFault` where it fails to say where it stands or ends, or to move there. But for the last one
-    /// that tells still stands where it stood.
+    /// Refused, the raw is handed back with nothing read or written: `Closed`, then `Unsupported` where it can't do what it is opened for
+    /// (one that is both read and written through a buffer has to seek), `NoMemory`, and `RawFault` where it fails to say where it stands or
+    /// ends, or to move there. But for the last one that tells still stands where it stood.
     pub(crate) fn open(alloc: Global, raw: R, plan: OpenPlan) -> Result<Self, NewRefused<R>>
         requires planned { IsPlanned plan }
         requires start { StandsAtStart (R.shows raw) }
@@ -87,10 +87,11 @@ impl<R: RawStream> Session<R> {
 
     /// Makes one call.
     ///
-    /// A text has `Read`, `ReadLine`, `WriteText`, as far as it reads and writes, `Tell`, as far as it can be moved, `SetChunkSize`, `Reconfigure`,
-    /// `Flush`, `Close` and `Detach`; a stream of bytes all but the calls of texts, as far as it reads, writes and can be moved, and without a
-    /// buffer no `Read1`, `ReadInto1`, `Peek` and `Detach`. The four questions `Readable`, `Writable`, `Seekable` and `Closed` are answered by a
-    /// `Flag` in every life, and so are a text's `ChunkSize` by a `Count` of bytes, `Encoding` and `Errors` by a `Name`, or `NoMemory` for that.
+    /// A text has `Read`, `ReadLine`, `WriteText`, as far as it reads and writes, `SeekText` and `Tell`, as far as it can be moved,
+    /// `SetChunkSize`, `Reconfigure`, `Flush`, `Close` and `Detach`; a stream of bytes all but the calls of texts, as far as it reads, writes
+    /// and can be moved, and without a buffer no `Read1`, `ReadInto1`, `Peek` and `Detach`. The four questions `Readable`, `Writable`,
+    /// `Seekable` and `Closed` are answered by a `Flag` in every life, and so are a text's `ChunkSize` by a `Count` of bytes, `Encoding` and
+    /// `Errors` by a `Name`, or `NoMemory` for that.
     ///
     /// - Readings answer bytes, lines or characters, as many as asked for, or all that are left; fewer come only at the end.
     ///   `Read1`, `ReadInto1`, `Peek` and, without a buffer, `Read` of a size and `ReadInto` answer what one transfer of the raw gives,
@@ -100,29 +101,34 @@ impl<R: RawStream> Session<R> {
     /// - `Write` answers how many bytes were taken: all, or without a buffer those of one transfer; `WriteLines` is `Done`. `WriteText`
     ///   answers how many characters the text has: it is written whole, by the text's newline rule, or not at all. With line buffering a text
     ///   that has LF or CR is passed on at once.
-    /// - `SetChunkSize` and `Reconfigure` are `Done`. `Seek` and `Tell` answer the place, a text's `Tell` a `Cookie` of it, which calls no raw, takes no
-    ///   memory and leaves all as it was; `Truncate` the size, `Flush` and `Close` `Done`. `Detach` answers what is unwritten, and its place; the
-    ///   raw stays with the session, and every call is `Detached` from then on, but the questions.
+    /// - `SetChunkSize` and `Reconfigure` are `Done`. `Seek` and `Tell` answer the place, a text's `Tell` a `Cookie` of it, which calls no
+    ///   raw, takes no memory and leaves all as it was. `SeekText` passes on what was written, puts the text where a cookie says (0), or, by
+    ///   zeros, where it stands (1) or its bytes end (2), and answers the cookie that it went by. `Truncate` answers the size, `Flush` and
+    ///   `Close` `Done`. `Detach` answers what is unwritten, and its place; the raw stays with the session, and every call is `Detached` from
+    ///   then on, but the questions.
     ///
     /// A write without a buffer whose raw would have blocked is `NotReady`, with nothing taken. Else a call is `Refused`:
     ///
-    /// - `Failed` once a fault or running out of memory failed the session (a text and a stream with a buffer may still be detached), `Closed` after a
-    ///   `Close` (which may be made again), `Detached` after a `Detach`; then `Unsupported` to a call that the session lacks,
-    ///   `BadWhence`, `NegativeSeek` and `TooFar`: no raw is called, but for a `Seek` from the end, and all stays as it was.
-    ///   `ChunkSize`, `Encoding` and `Errors` are `Unsupported` in every life of a stream of bytes.
+    /// - `Failed` once a fault or running out of memory failed the session (a text and a stream with a buffer may still be detached),
+    ///   `Closed` after a `Close` (which may be made again), `Detached` after a `Detach`; then `Unsupported` to a call that the session
+    ///   lacks, `BadWhence`, `InvalidCookie`, `NegativeSeek` and `TooFar`: no raw is called, but for a seek from the end, and all stays as it
+    ///   was. `ChunkSize`, `Encoding` and `Errors` are `Unsupported` in every life of a stream of bytes.
     /// - `BadArgument` for a chunk size of 0, `SeekFirst` where a text is written, or given an encoding, a handler or a newline rule to be
-    ///   read by, once a reading that asked for characters was answered, also by none at the end; after a `Read` of all that was answered
-    ///   in full it may be written, and given them, again, `UnknownHandler` where a text is given a handler that it isn't read or written with, `TooFar` where a write would
-    ///   end past the greatest place: with all as it was.
+    ///   read by, once a reading that asked for characters was answered, also by none at the end; after a `Read` of all that was answered in
+    ///   full, and after a `SeekText` that skips nothing, it may be written, and given them, again, `UnknownHandler` where a text is given a
+    ///   handler that it isn't read or written with, `TooFar` where a write would end past the greatest place: with all as it was.
     /// - `UnicodeDecodeError`, with byte places from the start of the stream, where a range that the text's handler refuses stands before the
     ///   end of its answer: place and life stay, and a shorter read gives the characters before it. `UnicodeEncodeError`, with places in
     ///   characters, where a `WriteText` has a character that its encoding hasn't and its handler refuses: nothing is written.
     /// - `WouldBlock` where the raw would have blocked and the rest of a `Write` had no room in the buffer, or some of `WriteLines` wasn't
-    ///   taken: the first `taken` bytes were; of a `WriteText` all its bytes, which later calls pass on. Of a `Seek`, `Truncate`, `Flush`, `Close` or `Detach` none were, and it may be made again.
+    ///   taken: the first `taken` bytes were; of a `WriteText` all its bytes, which later calls pass on. Of a `Seek`, `SeekText`, `Truncate`,
+    ///   `Flush`, `Close` or `Detach` none were, and it may be made again; a `SeekText` may leave the text at the start of a cookie that
+    ///   skips characters, clean.
+    /// - `CannotRestore` to a `SeekText` whose cookie skips characters that the bytes at its start don't give: the text stands there, clean.
     /// - `RawFault` where the raw failed: the session is failed from then on; after `Close` it is closed.
-    /// - `NoMemory`: place and life stay, and the call may be made again; but a `Read`, `ReadInto`, `ReadLine` or `ReadLines` of bytes
-    ///   fails the session once bytes left the raw, a write of bytes once the raw took some of its bytes, and each call of a text that
-    ///   passes on what was written once its buffer took some.
+    /// - `NoMemory`: place and life stay, but for a `SeekText` as above, and the call may be made again; but a `Read`, `ReadInto`, `ReadLine`
+    ///   or `ReadLines` of bytes fails the session once bytes left the raw, a write of bytes once the raw took some of its bytes, and each
+    ///   call of a text that passes on what was written once its buffer took some.
     ///
     /// A `Close` of a live session that is `Done` has closed the raw, of every kind of session, and leaves nothing owed.
     ///
@@ -157,10 +163,10 @@ impl<R: RawStream> Session<R> {
         }
     }
 
-    /// Hands the raw back, in every life, with the bytes that it isn't known to have, and the place of the first of them: with
-    /// none unwritten a stream's own place, and of a text the byte from which its place counts characters: where it was opened, behind what
-    /// was written last, or the end once all was read. No place comes where the raw can't seek, nor of a session that was detached, whose reply had what
-    /// was unwritten. The raw is closed where a `Close` closed it, and else stands wherever its last call left it. What was read and
+    /// Hands the raw back, in every life, with the bytes that it isn't known to have, and the place of the first of them: with none unwritten
+    /// a stream's own place, and of a text the byte from which its place counts characters: where it was opened or sought to, behind what was
+    /// written last, or the end once all was read. No place comes where the raw can't seek, nor of a session that was detached, whose reply
+    /// had what was unwritten. The raw is closed where a `Close` closed it, and else stands wherever its last call left it. What was read and
     /// not taken is dropped. It takes no memory.
     pub fn finish(self) -> Detached<R>
         ensures raw { R.shows result.raw ≡ raw_of self }

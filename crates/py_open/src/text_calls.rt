@@ -15,7 +15,7 @@ use py_raw::{Data, RawStream};
 use py_text_session::{TextSession, TextUnwritten};
 use std::alloc::Global;
 
-/// Makes a call on a text; what a text doesn't have so far, it refuses.
+/// Makes a call on a text; what a text doesn't have, it refuses.
 pub(crate) fn answer_text<R: RawStream>(
     alloc: Global,
     text: &mut TextSession<R>,
@@ -36,6 +36,9 @@ fn made<R: RawStream>(alloc: Global, text: &mut TextSession<R>, call: &Call) -> 
         Call::Read(size) => text_reply(text.read(alloc, *size)),
         Call::ReadLine(limit) => text_reply(text.readline(alloc, *limit)),
         Call::WriteText(written) => count_reply(text.write(alloc, written.as_str())),
+        Call::SeekText(cookie, whence) => {
+            cookie_reply(text.seek(alloc, cookie.as_slice(), *whence))
+        }
         Call::Tell => cookie_reply(text.tell()),
         Call::SetChunkSize(size) => done_reply(text.set_chunksize(*size)),
         Call::Reconfigure(changes) => done_reply(text.reconfigure(*changes)),
@@ -114,7 +117,7 @@ fn count_reply(answer: Result<usize, IoFault>) -> Reply
     }
 }
 
-/// The reply of a tell.
+/// The reply of a tell or a seek.
 fn cookie_reply(answer: Result<TextIOCookie, IoFault>) -> Reply
     ensures { said result ≡ cookie_reply answer }
 {

@@ -209,7 +209,7 @@ eight_before : (number : ℕ) (bytes : List ℕ) → AreBytes bytes → AreBytes
 eight_before number bytes are = (small _, (small _, (small _, (small _, (small _, (small _, (small _, (small _, are))))))))
 
 -- the bytes of a cookie are bytes
-cookie_small : (cookie : seen.Cookie) → IsBytes (cookie_bytes cookie)
+pub cookie_small : (cookie : seen.Cookie) → IsBytes (cookie_bytes cookie)
 cookie_small cookie =
     let last : List ℕ = flag_byte cookie.need_eof ∷ number_bytes w32 cookie.bytes_to_skip in
     let skipped : List ℕ = number_bytes w32 cookie.chars_to_skip ++ last in

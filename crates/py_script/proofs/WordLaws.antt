@@ -1,5 +1,5 @@
 -- Bytes and texts are written in scripts by the words that replies have for them.
-use Rattle.std.proofs.Common.{◌≡◌, ℕ, true, false, ◌&&◌, eqb, List, [], ◌∷◌, ◌++◌, map, codes, chars, Some, option_map, refl, ap, ◌∙◌}
+use Rattle.std.proofs.Common.{◌≡◌, ℕ, true, false, ◌&&◌, eqb, pos, List, [], ◌∷◌, ◌++◌, map, codes, chars, Some, option_map, refl, ap, ◌∙◌}
 use Rattle.std.specs.List.{All}
 use Rattle.std.specs.Option.{option_and_then}
 use Rattle.std.specs.Result.{result_ok}
@@ -7,9 +7,9 @@ use Rattle.std.specs.Str.{IsUtf8, bytes_eq}
 use Rattle.std.proofs.lemmas.List.Elements.{All-head, All-tail}
 use Rattle.hex.specs.Hex.{IsBytes, encode_with, encode_lower}
 use Rattle.hex.proofs.HexLemmas.{decode_of-encode_lower}
-use Rattle.py_calls.specs.declared.call.Call.TheVariants.{Write, WriteLines, WriteText}
+use Rattle.py_calls.specs.declared.call.Call.TheVariants.{Write, WriteLines, WriteText, SeekText}
 use Rattle.py_script.specs.Words.{spaced, text_of, hex_bytes, word_bytes, words_bytes}
-use Rattle.py_script.specs.LineCall.{words_call}
+use Rattle.py_script.specs.LineCall.{seektext_by, words_call}
 use Rattle.py_script.specs.Script.{line_call}
 use Rattle.py_script.specs.ReplyLine.{hex_of}
 use Rattle.py_script.proofs.OptionLemmas.{text_of_utf8}
@@ -48,6 +48,11 @@ pub write_line : (bytes : List ℕ) → IsBytes bytes → line_call (codes "writ
 write_line bytes range =
     ap words_call (words_apart (codes "write") (hex_of bytes ∷ []) refl (hex_word bytes, tt))
     ∙ ap (option_map Write) (word_of_bytes bytes range)
+
+pub seektext_line : (bytes : List ℕ) → IsBytes bytes → line_call (codes "seektext" ++ spaced (hex_of bytes ∷ [])) ≡ Some (SeekText bytes (pos 0))
+seektext_line bytes range =
+    ap words_call (words_apart (codes "seektext") (hex_of bytes ∷ []) refl (hex_word bytes, tt))
+    ∙ ap (seektext_by (Some (pos 0))) (word_of_bytes bytes range)
 
 pub writelines_line : (lines : List (List ℕ)) → All IsBytes lines → line_call (codes "writelines" ++ spaced (map hex_of lines)) ≡ Some (WriteLines lines)
 writelines_line lines all =

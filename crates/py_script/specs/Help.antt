@@ -38,10 +38,10 @@ script_help =
     codes "  readlines [N], read1 [N], peek, readinto N, readinto1 N     read as in Python" ∷
     codes "  write HEX, writelines [HEX ..], writetext HEX   writes bytes, lines, UTF-8" ∷
     codes "  seek I [WHENCE]    I from the start (0, or none), the place (1), the end (2)" ∷
+    codes "  seektext HEX [WHENCE]: a text, by a cookie; truncate [N], chunksize [N], tell," ∷
+    codes "  flush, close, detach, readable, writable, seekable, closed, encoding, errors" ∷
     codes "  reconfigure [encoding=NAME] [errors=NAME] [newline=HEX] [line=B] [through=B]" ∷
     codes "                     gives a text these; newline=none: the default; B is 0 or 1" ∷
-    codes "  truncate [N], chunksize [N], tell, flush, close, detach, readable, writable," ∷
-    codes "  seekable, closed, encoding, errors" ∷
     codes "N and I are decimal, I also after a -; HEX has two digits a byte, - for none." ∷
     codes "Lines that are empty or begin with # are skipped. A close is added at the end." ∷
     [] ∷

@@ -3,7 +3,7 @@ use Rattle.std.specs.Prelude.{ℕ, ℤ, pos, List, [], ◌∷◌, Option, Some, 
 use Rattle.std.specs.Option.{option_and_then}
 use Rattle.std.specs.Str.{bytes_eq}
 use Rattle.py_calls.specs.declared.call.Call.{Call}
-use Rattle.py_calls.specs.declared.call.Call.TheVariants.{Read, Read1, ReadLine, ReadLines, Peek, ReadInto, ReadInto1, Write, WriteLines, WriteText, Seek, Tell, Truncate, Flush, Close, Detach, ChunkSize, SetChunkSize, Reconfigure, Readable, Writable, Seekable, Closed, Encoding, Errors}
+use Rattle.py_calls.specs.declared.call.Call.TheVariants.{Read, Read1, ReadLine, ReadLines, Peek, ReadInto, ReadInto1, Write, WriteLines, WriteText, Seek, SeekText, Tell, Truncate, Flush, Close, Detach, ChunkSize, SetChunkSize, Reconfigure, Readable, Writable, Seekable, Closed, Encoding, Errors}
 use Rattle.py_script.specs.Words.{decimal_value, integer_value, whence_value, word_bytes, word_text, words_bytes}
 use Rattle.py_script.specs.Settings.{changes_of_words}
 
@@ -59,6 +59,17 @@ seek_call (offset ∷ []) = seek_by (integer_value offset) (Some (pos 0))
 seek_call (offset ∷ whence ∷ []) = seek_by (integer_value offset) (whence_value whence)
 seek_call _ = None
 
+-- a move of a text by a whence and a cookie's bytes; None where either is malformed
+abbrev pub seektext_by : Option ℤ → Option (List ℕ) → Option Call
+seektext_by (Some whence) cookie = option_map (λ bytes. SeekText bytes whence) cookie
+seektext_by None cookie = None
+
+-- the call of what stands after `seektext`: a cookie's bytes, and a whence, which is 0 (by the cookie) where there is none
+abbrev pub seektext_call : List (List ℕ) → Option Call
+seektext_call (cookie ∷ []) = seektext_by (Some (pos 0)) (word_bytes cookie)
+seektext_call (cookie ∷ whence ∷ []) = seektext_by (whence_value whence) (word_bytes cookie)
+seektext_call _ = None
+
 -- the call of what stands after `write`: bytes
 abbrev pub write_call : List (List ℕ) → Option Call
 write_call (bytes ∷ []) = option_map Write (word_bytes bytes)
@@ -77,9 +88,12 @@ writelines_call lines = option_map WriteLines (words_bytes lines)
 abbrev pub reconfigure_call : List (List ℕ) → Option Call
 reconfigure_call settings = option_map Reconfigure (changes_of_words settings)
 
--- the call of another word: of `reconfigure`, or of one with at most a size after it
+-- the call of another word: of `seektext`, of `reconfigure`, or of one with at most a size after it
 abbrev pub other_call : List ℕ → List (List ℕ) → Option Call
-other_call name words = if bytes_eq name (codes "reconfigure") then reconfigure_call words else reading_call name words
+other_call name words =
+    if bytes_eq name (codes "seektext") then seektext_call words
+    else if bytes_eq name (codes "reconfigure") then reconfigure_call words
+    else reading_call name words
 
 -- the call of a line's words; None where they are malformed
 abbrev pub words_call : List (List ℕ) → Option Call

@@ -23,14 +23,12 @@ pub enum Command<'a> {
     Version,
 }
 
-/// What the words of a command line ask for, without the program's own name; `None` where they are malformed, `Err` when out of
-/// memory.
+/// What the words of a command line ask for, without the program's own name; `None` where they are malformed, `Err` when out of memory.
 ///
-/// A form is `--help` alone, `--version` alone, or `run`, a path, a mode and options, each at most once and in any
-/// order: `buffering=` and one or more decimal digits after at most one `-`, from -9223372036854775808 to
-/// 9223372036854775807; `encoding=` and `errors=`, each with any text; `newline=` and the UTF-8 of a text in hex of
-/// either case, two digits to a byte; `chunk=` and one or more decimal digits, up to 18446744073709551615. Leading zeros
-/// are allowed, `+` is not. Where no option gives an argument, it is as in `OpenArgs::default`.
+/// A form is `--help` alone, `--version` alone, or `run`, a path, a mode and options, each at most once and in any order: `buffering=` and
+/// one or more decimal digits after at most one `-`, from -9223372036854775808 to 9223372036854775807; `encoding=` and `errors=`, each with
+/// any text; `newline=` and the UTF-8 of a text in hex of either case, two digits to a byte; `chunk=` and one or more decimal digits, up to
+/// 18446744073709551615. Leading zeros are allowed, `+` is not. Where no option gives an argument, it is as in `OpenArgs::default`.
 pub fn parse_words<'a>(
     alloc: Global,
     words: &'a [String],

@@ -16,8 +16,7 @@ pub fn parse_decimal(digits: &[u8]) -> Option<usize>
     Some(value)
 }
 
-/// A value with one more digit after it; `None` where the byte is no digit, and for a number above
-/// 18446744073709551615.
+/// A value with one more digit after it; `None` where the byte is no digit, and for a number above 18446744073709551615.
 #[tactic(auto, unfolding(crate::specs::Words::is_digit))]
 fn value_with(value: usize, digit: u8) -> Option<usize>
     ensures { result ≡ as_size (value_onto value (digit ∷ [])) }

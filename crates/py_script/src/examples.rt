@@ -48,7 +48,7 @@ pub fn examples_of_sized_lines()
 {}
 
 /// Worked examples of moves, computed from the definition.
-#[tactic(auto, unfolding(crate::specs::Words::is_digit))]
+#[tactic(auto, unfolding(crate::specs::Words::is_digit, hex::specs::Hex::decode_pairs))]
 pub fn examples_of_moves()
     ensures from_the_start { script_calls (codes "seek 0") ≡ Some (Call.Seek (pos 0) (pos 0) ∷ []) }
     ensures from_the_place { script_calls (codes "seek 3 1") ≡ Some (Call.Seek (pos 3) (pos 1) ∷ []) }
@@ -64,6 +64,12 @@ pub fn examples_of_moves()
     ensures whence_too_large { script_calls (codes "seek 1 2147483648") ≡ None }
     ensures whence_too_small { script_calls (codes "seek 1 -2147483649") ≡ None }
     ensures whence_of_no_digits { script_calls (codes "seek 1 ") ≡ None }
+    ensures by_a_cookie { script_calls (codes "seektext 0A00") ≡ Some (Call.SeekText (10 ∷ 0 ∷ []) (pos 0) ∷ []) }
+    ensures by_none { script_calls (codes "seektext - 2") ≡ Some (Call.SeekText [] (pos 2) ∷ []) }
+    ensures no_cookie { script_calls (codes "seektext") ≡ None }
+    ensures odd_cookie { script_calls (codes "seektext 0") ≡ None }
+    ensures no_whence { script_calls (codes "seektext 00 -") ≡ None }
+    ensures three_words { script_calls (codes "seektext 00 0 0") ≡ None }
 {}
 
 /// Worked examples of writes, computed from the definition.
@@ -139,7 +145,6 @@ pub fn examples_of_malformed_lines()
     ensures too_large { script_calls (codes "read 18446744073709551616") ≡ None }
     ensures size_of_close { script_calls (codes "close 1") ≡ None }
     ensures not_utf8 { script_calls (codes "read " ++ 255 ∷ []) ≡ None }
-    ensures cookie { script_calls (codes "seektext 00") ≡ None }
     ensures name_to_set { script_calls (codes "encoding utf-8") ≡ None }
     ensures chunk_below_zero { script_calls (codes "chunksize -1") ≡ None }
 {}

@@ -26,8 +26,7 @@ fn mode_name(error: ModeError) -> &'static str
     }
 }
 
-/// The name of a fault as the program prints it: its variant's, and for a mode the name of what is wrong with it
-/// (docs/PROGRAM.md).
+/// The name of a fault as the program prints it: its variant's, and for a mode the name of what is wrong with it (docs/PROGRAM.md).
 pub fn fault_name(fault: IoFault) -> &'static str
     ensures { result.now ≡ fault_name fault }
 {

@@ -22,10 +22,10 @@ A script has a call a line, one space between words, and 1048576 bytes at most:
   readlines [N], read1 [N], peek, readinto N, readinto1 N     read as in Python
   write HEX, writelines [HEX ..], writetext HEX   writes bytes, lines, UTF-8
   seek I [WHENCE]    I from the start (0, or none), the place (1), the end (2)
+  seektext HEX [WHENCE]: a text, by a cookie; truncate [N], chunksize [N], tell,
+  flush, close, detach, readable, writable, seekable, closed, encoding, errors
   reconfigure [encoding=NAME] [errors=NAME] [newline=HEX] [line=B] [through=B]
                      gives a text these; newline=none: the default; B is 0 or 1
-  truncate [N], chunksize [N], tell, flush, close, detach, readable, writable,
-  seekable, closed, encoding, errors
 N and I are decimal, I also after a -; HEX has two digits a byte, - for none.
 Lines that are empty or begin with # are skipped. A close is added at the end.
 

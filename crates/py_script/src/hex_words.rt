@@ -5,8 +5,7 @@ use hex::{FromHexError, decode};
 use py_flat::{Chars, Data, Lines};
 use std::alloc::{AllocError, Global};
 
-/// The bytes that are written in hex, two digits of either case to a byte, or `None` where they are no hex; `Err` when out of
-/// memory.
+/// The bytes that are written in hex, two digits of either case to a byte, or `None` where they are no hex; `Err` when out of memory.
 pub(crate) fn hex_bytes(alloc: Global, digits: &[u8]) -> Result<Option<Data>, AllocError>
     ensures { IfOk result (λ bytes. bytes ≡ hex_bytes digits.now) }
 {

@@ -1,5 +1,5 @@
 ghost use Rattle.std.specs.Prelude.{◌≡◌, map, IfOk};
-ghost use Rattle.py_script.specs.LineCall.{plain_call, sized_call, reading_call, seek_call, write_call, writetext_call, writelines_call, reconfigure_call, other_call, words_call};
+ghost use Rattle.py_script.specs.LineCall.{plain_call, sized_call, reading_call, seek_call, seektext_call, write_call, writetext_call, other_call, words_call};
 
 use crate::decimal::{parse_decimal, parse_integer, parse_whence};
 use crate::hex_words::{word_bytes, word_text, words_bytes};
@@ -21,18 +21,20 @@ pub(crate) fn words_call(alloc: Global, words: &[&[u8]]) -> Result<Option<Call>,
     } else if *name == "writetext".as_bytes() {
         writetext_call(alloc, words)
     } else if *name == "writelines".as_bytes() {
-        writelines_call(alloc, words)
+        Ok(words_bytes(alloc, words)?.map(Call::WriteLines))
     } else {
         other_call(alloc, name, words)
     }
 }
 
-/// The call of another word: of `reconfigure`, or of one with at most a size after it.
+/// The call of another word: of `seektext`, of `reconfigure`, or of one with at most a size after it.
 fn other_call(alloc: Global, name: &[u8], words: &[&[u8]]) -> Result<Option<Call>, AllocError>
     ensures { IfOk result (λ call. call ≡ other_call name.now (map (λ word. word.now) words.now)) }
 {
-    if name == "reconfigure".as_bytes() {
-        reconfigure_call(alloc, words)
+    if name == "seektext".as_bytes() {
+        seektext_call(alloc, words)
+    } else if name == "reconfigure".as_bytes() {
+        Ok(parse_settings(alloc, words)?.map(Call::Reconfigure))
     } else {
         Ok(reading_call(name, words))
     }
@@ -47,6 +49,21 @@ fn seek_call(words: &[&[u8]]) -> Option<Call>
         [offset, whence] => Some(Call::Seek(parse_integer(offset)?, parse_whence(whence)?)),
         _ => None,
     }
+}
+
+/// The call of what stands after `seektext`: a cookie's bytes, and a whence, which is 0 (by the cookie) where there is none.
+fn seektext_call(alloc: Global, words: &[&[u8]]) -> Result<Option<Call>, AllocError>
+    ensures { IfOk result (λ call. call ≡ seektext_call (map (λ word. word.now) words.now)) }
+{
+    let (cookie, whence) = match words {
+        [cookie] => (cookie, 0),
+        [cookie, whence] => match parse_whence(whence) {
+            Some(whence) => (cookie, whence),
+            None => return Ok(None),
+        },
+        _ => return Ok(None),
+    };
+    Ok(word_bytes(alloc, cookie)?.map(|cookie| Call::SeekText(cookie, whence)))
 }
 
 /// The call of what stands after `write`: bytes.
@@ -67,20 +84,6 @@ fn writetext_call(alloc: Global, words: &[&[u8]]) -> Result<Option<Call>, AllocE
         [text] => Ok(word_text(alloc, text)?.map(Call::WriteText)),
         _ => Ok(None),
     }
-}
-
-/// The call of what stands after `writelines`: the bytes of each line, of any number of them.
-fn writelines_call(alloc: Global, words: &[&[u8]]) -> Result<Option<Call>, AllocError>
-    ensures { IfOk result (λ call. call ≡ writelines_call (map (λ word. word.now) words.now)) }
-{
-    Ok(words_bytes(alloc, words)?.map(Call::WriteLines))
-}
-
-/// The call of what stands after `reconfigure`: settings, each at most once and in their order.
-fn reconfigure_call(alloc: Global, words: &[&[u8]]) -> Result<Option<Call>, AllocError>
-    ensures { IfOk result (λ call. call ≡ reconfigure_call (map (λ word. word.now) words.now)) }
-{
-    Ok(parse_settings(alloc, words)?.map(Call::Reconfigure))
 }
 
 /// The call of a word with at most a size after it.

@@ -32,8 +32,7 @@ struct Given {
     chunk_size: Option<usize>,
 }
 
-/// The arguments of an opening by the words of its options, or `None` where one is no option or is given twice; `Err` when out of
-/// memory.
+/// The arguments of an opening by the words of its options, or `None` where one is no option or is given twice; `Err` when out of memory.
 pub(crate) fn parse_options(alloc: Global, words: &[String]) -> Result<Option<OpenArgs>, AllocError>
     ensures { IfOk result (λ args. args ≡ arguments_of (map string_bytes words.now)) }
 {

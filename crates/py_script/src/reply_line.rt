@@ -14,12 +14,10 @@ use py_calls::{Reply, TextIOCookie};
 use py_flat::{Chars, Data, IoFault};
 use std::alloc::{AllocError, Global};
 
-/// Adds the line of a reply, with its LF, at the end of some bytes. At `Err`, when out of memory, the bytes are
-/// unchanged.
+/// Adds the line of a reply, with its LF, at the end of some bytes. At `Err`, when out of memory, the bytes are unchanged.
 ///
-/// The line begins with a word for the reply's kind, and each further word stands after one space: bytes, a text's
-/// UTF-8, lines and a cookie as hex in lower case (`-` for none), numbers as decimals (docs/PROGRAM.md). It tells the reply: no
-/// other has this line.
+/// The line begins with a word for the reply's kind, and each further word stands after one space: bytes, a text's UTF-8, lines and a
+/// cookie as hex in lower case (`-` for none), numbers as decimals (docs/PROGRAM.md). It tells the reply: no other has this line.
 pub fn push_reply_line(alloc: Global, out: &mut Vec<u8>, reply: &Reply) -> Result<(), AllocError>
     ensures ok { OnOk result (out.new.items ≡ out.old.items ++ reply_line reply.now) }
     ensures err { OnErr result (out.new.items ≡ out.old.items) }
@@ -160,20 +158,15 @@ fn push_fault(alloc: Global, line: &mut Vec<u8>, fault: IoFault) -> Result<(), A
     push_word(line, fault_name(fault).as_bytes())?;
     match fault {
         IoFault::WouldBlock { taken } => push_number(alloc, line, taken),
-        IoFault::UnicodeDecodeError { start, end } => push_two_numbers(alloc, line, start, end),
-        IoFault::UnicodeEncodeError { start, end } => push_two_numbers(alloc, line, start, end),
+        IoFault::UnicodeDecodeError { start, end } => push_pair(alloc, line, start, end),
+        IoFault::UnicodeEncodeError { start, end } => push_pair(alloc, line, start, end),
         IoFault::IndexError { dimension } => push_number(alloc, line, dimension as u64),
         _ => Ok(()),
     }
 }
 
 /// Adds two numbers as decimals, each after a space.
-fn push_two_numbers(
-    alloc: Global,
-    line: &mut Vec<u8>,
-    first: u64,
-    second: u64,
-) -> Result<(), AllocError>
+fn push_pair(alloc: Global, line: &mut Vec<u8>, first: u64, second: u64) -> Result<(), AllocError>
     ensures { OnOk result (line.new.items ≡ line.old.items ++ spaced (decimal first ∷ decimal second ∷ [])) }
 {
     push_number(alloc, line, first)?;

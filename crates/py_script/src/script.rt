@@ -38,11 +38,9 @@ fn parse_lines(alloc: Global, lines: &[&[u8]]) -> Result<Option<Vec<Call>>, Allo
 /// The call of a script's line, without its LF, or `None` where the line is malformed; `Err` when out of memory.
 ///
 /// A line is one of these, with one space between its words:
-/// - `read`, `read1`, `readline`, `readlines` or `truncate`, alone or with a size;
-/// - `readinto` or `readinto1` with a size;
+/// - `read`, `read1`, `readline`, `readlines`, `truncate` or `chunksize`, alone or with a size, `readinto` or `readinto1` with one;
 /// - `write` with bytes, `writelines` with the bytes of each line, of none too, `writetext` with the UTF-8 of a text;
-/// - `seek` with an offset, or with an offset and a whence, which is 0 where there is none;
-/// - `chunksize`, alone or with a size;
+/// - `seek` with an offset, or with an offset and a whence, which is 0 where there is none; `seektext` so with a cookie's bytes;
 /// - `reconfigure` with settings, of none too, each at most once and in this order: `encoding=` and `errors=` with a name that is
 ///   built in, `newline=` with `none` or the UTF-8 of a newline argument, which of the empty one may be nothing at all, `line=` and
 ///   `through=` with 0 or 1;

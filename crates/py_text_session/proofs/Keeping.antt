@@ -9,7 +9,7 @@ use Rattle.py_flat.specs.ExactStep.{is_closed}
 use Rattle.py_flat.specs.FlatFile.{Abilities, Buffering, Buffered}
 use Rattle.py_flat.specs.Refusals.{is_unbuffered}
 use Rattle.py_plain_text.specs.TextFile.{TextFile, TextSettings}
-use Rattle.py_plain_text.specs.TextCalls.{TextFileCall, Read, ReadLine, WriteText, Tell, Reconfigure, SetChunkSize, Flush, Close, Detach, ChunkSize, Readable, Writable, Seekable, Closed, Encoding, Errors, OtherKind, is_detach, is_getter}
+use Rattle.py_plain_text.specs.TextCalls.{TextFileCall, Read, ReadLine, WriteText, SeekText, Tell, Reconfigure, SetChunkSize, Flush, Close, Detach, ChunkSize, Readable, Writable, Seekable, Closed, Encoding, Errors, OtherKind, is_detach, is_getter}
 use Rattle.py_stream.specs.Buffer.{Buffer, IsClosedWithRaw}
 use Rattle.py_read_text.specs.TextState.{TextState, file_of}
 use Rattle.py_read_text.specs.Answers.{refused_here, Answers, LifeMoves, hands_back}
@@ -25,6 +25,7 @@ abbrev pub is_made : TextFileCall → Bool
 is_made (Read size) = true
 is_made (ReadLine limit) = true
 is_made (WriteText text) = true
+is_made (SeekText sought whence) = true
 is_made Tell = true
 is_made (SetChunkSize size) = true
 is_made (Reconfigure changes) = true
@@ -39,6 +40,7 @@ failed_refuses : (file : TextFile) (call : TextFileCall) → is_made call ≡ tr
 failed_refuses file (Read size) made is = rw is refl
 failed_refuses file (ReadLine limit) made is = rw is refl
 failed_refuses file (WriteText text) made is = rw is refl
+failed_refuses file (SeekText sought whence) made is = rw is refl
 failed_refuses file Tell made is = rw is refl
 failed_refuses file (SetChunkSize size) made is = rw is refl
 failed_refuses file (Reconfigure changes) made is = rw is refl
@@ -56,6 +58,7 @@ closed_stays before Close reply after made is answers = (answers.again (ap is_cl
 closed_stays before (Read size) reply after made is answers = (answers.refused fault.Closed (rw is refl)).same
 closed_stays before (ReadLine limit) reply after made is answers = (answers.refused fault.Closed (rw is refl)).same
 closed_stays before (WriteText text) reply after made is answers = (answers.refused fault.Closed (rw is refl)).same
+closed_stays before (SeekText sought whence) reply after made is answers = (answers.refused fault.Closed (rw is refl)).same
 closed_stays before Tell reply after made is answers = (answers.refused fault.Closed (rw is refl)).same
 closed_stays before (SetChunkSize size) reply after made is answers = (answers.refused fault.Closed (rw is refl)).same
 closed_stays before (Reconfigure changes) reply after made is answers = (answers.refused fault.Closed (rw is refl)).same

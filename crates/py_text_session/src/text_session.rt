@@ -2,7 +2,7 @@
 ghost use Rattle.std.specs.Prelude.{◌≡◌, ◌≢◌, ◌<◌, ◌≤◌, ◌-◌, ◌++◌, true, false, [], length, chars, vec_len, vec_capacity, option_map, IfSome, IfOk};
 ghost use Rattle.py_flat.specs.Calls.{Refused};
 ghost use Rattle.py_flat.specs.ExactStep.{is_closed};
-ghost use Rattle.py_plain_text.specs.TextCalls.{Read, ReadLine, WriteText, Tell, SetChunkSize, Flush, Close, OtherKind};
+ghost use Rattle.py_plain_text.specs.TextCalls.{Read, ReadLine, WriteText, SeekText, Tell, SetChunkSize, Flush, Close, OtherKind};
 ghost use Rattle.py_plain_text.specs.TextCalls as text_call;
 ghost use Rattle.py_plain_text.specs.Cookie.{is_buildable};
 ghost use Rattle.py_plain_text.specs.CookieView.{cookie_shown};
@@ -41,10 +41,10 @@ use std::mem;
 /// and limits are characters; the sizes of the buffer and of chunks, and places from the start of the stream, are bytes.
 ///
 /// Each call first answers by the life, with all as it was and no raw called: `Failed` after a fault (but a `detach`), `Closed` after a
-/// `close` (which may be called again), `Detached` after a `detach`; then it is `Unsupported` where the text isn't opened for it. Else, where the raw failed in the call, it is
-/// `RawFault`: the text is failed from then on; after `close` it is closed. `NoMemory` means out of memory: place and life stay, and the
-/// call may be made again; but a text that is written may be failed by it, where memory ran out while its buffer took or passed on what
-/// was written.
+/// `close` (which may be called again), `Detached` after a `detach`; then it is `Unsupported` where the text isn't opened for it. Else, where
+/// the raw failed in the call, it is `RawFault`: the text is failed from then on; after `close` it is closed. `NoMemory` means out of memory:
+/// place and life stay, but for a `seek` (there), and the call may be made again; but a text that is written may be failed by it, where
+/// memory ran out while its buffer took or passed on what was written.
 ///
 /// The rules are those of Python's `io.TextIOWrapper`; what waits, faults and refused ranges leave is this project's choice
 /// (docs/DECISIONS.md). A session that is dropped drops its raw, and what it owes; `into_parts` hands both back. After a `detach` nothing
@@ -195,6 +195,27 @@ impl<R: RawStream> TextSession<R> {
         self.text.tell()
     }
 
+    /// Puts the text where a cookie says, for whence 0; or, by a cookie of zeros or none, where it stands, for 1, or where its bytes end, for 2.
+    /// What was written is passed on first, and the cookie that it went by is answered. The text is clean then, but behind one that skips: that
+    /// puts it, dirty, inside the characters that stand for the range that it feeds, behind those skipped.
+    ///
+    /// `Unsupported` where its raw can't be moved, where it appends, or by another cookie for whence 1 or 2; `BadWhence`; `InvalidCookie` for
+    /// more than 25 bytes, a negative field or an order: with all as it was. `CannotRestore` where a cookie that skips doesn't fit the bytes at
+    /// its start: the text stands there, clean. `WouldBlock`: the text stands where it stood, or, where the bytes fed were being read, clean at
+    /// the cookie's start; so too after `NoMemory`, there only over a raw that takes memory; where its buffer ran out while it took what was
+    /// written the text is failed.
+    pub fn seek(
+        &mut self,
+        alloc: Global,
+        cookie: &[u8],
+        whence: i32,
+    ) -> Result<TextIOCookie, IoFault>
+        ensures answers { Answers self.old (SeekText cookie.now whence) (cookie_reply result) self.new }
+        ensures builds { IfOk result (λ cookie. is_buildable (cookie_shown cookie) ≡ true) }
+    {
+        self.text.seek(alloc, cookie, whence)
+    }
+
     /// Asks its buffer for n bytes at once from here on. No answer hangs on it.
     ///
     /// `BadArgument` for 0.
@@ -261,7 +282,7 @@ impl<R: RawStream> TextSession<R> {
         self.text.writable()
     }
 
-    /// Whether its raw can be moved, so that the text tells where it stands. The text itself isn't moved so far.
+    /// Whether its raw can be moved, so that the text tells where it stands, and may be put elsewhere, unless it appends.
     pub fn seekable(&self) -> bool
         ensures { result ≡ self.now.text.buffer.can.seekable }
     {
@@ -359,10 +380,10 @@ impl<R: RawStream> TextSession<R> {
         }
     }
 
-    /// Hands the raw back, in every life, with the bytes that it isn't known to have, those of its buffer and behind them the text's own; and,
-    /// where it can seek, with the place where they begin: without any the byte of the text place, where the text was opened, or behind what
-    /// was written last, or where a `read` of all came to the end. Of a session that was detached, whose reply had both, it hands back the raw
-    /// alone, with nothing unwritten and no place. The raw isn't moved: it is closed where `close` closed it, and else
+    /// Hands the raw back, in every life, with the bytes that it isn't known to have, those of its buffer and behind them the text's own;
+    /// and, where it can seek, with the place where they begin: without any the byte of the text place, where the text was opened or sought
+    /// to, or behind what was written last, or where a `read` of all came to the end. Of a session that was detached, whose reply had both,
+    /// it hands back the raw alone, with nothing unwritten and no place. The raw isn't moved: it is closed where `close` closed it, and else
     /// stands wherever its last call left it. What was read and not taken is dropped. It takes no memory.
     pub fn into_parts(self) -> Detached<R>
         ensures raw { R.shows result.raw ≡ self.text.buffer.raw }

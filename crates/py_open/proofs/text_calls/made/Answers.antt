@@ -1,7 +1,10 @@
-use Rattle.std.proofs.Common.{ℕ, true, List, refl, sym, ap, subst, ◌∙◌}
+use Rattle.std.proofs.Common.{rules, ◌≡◌, ℤ, to_z, of_z, ℕ, true, List, refl, sym, ap, subst, ◌∙◌}
+use Rattle.std.specs.Int.{w32}
 use Rattle.std.specs.Str.{chars}
 use Rattle.py_flat.specs.Calls.{Name}
 use Rattle.py_plain.specs.Names.{encoding_name, handler_name}
+use Rattle.py_plain_text.specs.TextCalls.{SeekText}
+use Rattle.py_read_text.specs.Answers.{Answers, cookie_reply}
 use Rattle.py_calls.specs.declared.reply.Reply.{Reply}
 use Rattle.py_calls.specs.Calls.{said}
 use Rattle.py_text_session.proofs.Detaching.{answers_call}
@@ -18,8 +21,14 @@ returns-in-ReadLine g c = rw c.in-ReadLine.is (rw c.text_reply-in-ReadLine.ensur
 pub returns-in-WriteText : goal.returns-in-WriteText
 returns-in-WriteText g c = rw c.in-WriteText.is (rw c.count_reply.ensures (answers_call _ _ _ _ refl (rw (sym c.as_str.ensures) c.write.ensures)))
 
+pub returns-in-SeekText : goal.returns-in-SeekText
+returns-in-SeekText g c =
+    let is : to_z w32 (of_z w32 c.in-SeekText.whence) ≡ c.in-SeekText.whence = search rules in
+    let answers = subst (λ (whence : ℤ). Answers c.args.text.now (SeekText c.as_slice.result.now whence) (cookie_reply c.seek.result) c.seek.new.self) is c.seek.ensures.answers in
+    rw c.in-SeekText.is (rw c.cookie_reply.ensures (answers_call _ _ _ _ refl (rw (sym c.as_slice.ensures) answers)))
+
 pub returns-in-Tell : goal.returns-in-Tell
-returns-in-Tell g c = rw c.in-Tell.is (rw c.cookie_reply.ensures (answers_call _ _ _ _ refl c.tell.ensures.answers))
+returns-in-Tell g c = rw c.in-Tell.is (rw c.cookie_reply-in-Tell.ensures (answers_call _ _ _ _ refl c.tell.ensures.answers))
 
 pub returns-in-SetChunkSize : goal.returns-in-SetChunkSize
 returns-in-SetChunkSize g c = rw c.in-SetChunkSize.is (rw c.done_reply.ensures (answers_call _ _ _ _ refl c.set_chunksize.ensures))
@@ -53,4 +62,4 @@ returns-in-Errors g c = rw c.in-Errors.is (record {
 pub returns-in_default : goal.returns-in_default
 returns-in_default g c =
     let d = c.in_default in
-    rw (other_kind c.args.call.now d.not-Read d.not-ReadLine d.not-WriteText d.not-SetChunkSize d.not-Flush d.not-Close d.not-ChunkSize d.not-Readable d.not-Writable d.not-Seekable d.not-Closed d.not-Encoding d.not-Errors d.not-Reconfigure d.not-Detach d.not-Tell) (answers_call _ _ _ _ refl c.refuse.ensures)
+    rw (other_kind c.args.call.now d.not-Read d.not-ReadLine d.not-WriteText d.not-SetChunkSize d.not-Flush d.not-Close d.not-ChunkSize d.not-Readable d.not-Writable d.not-Seekable d.not-Closed d.not-Encoding d.not-Errors d.not-Reconfigure d.not-Detach d.not-Tell d.not-SeekText) (answers_call _ _ _ _ refl c.refuse.ensures)

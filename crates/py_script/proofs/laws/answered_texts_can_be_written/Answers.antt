@@ -6,7 +6,7 @@ use Rattle.py_script.specs.Words.{spaced}
 use Rattle.py_script.specs.Script.{line_call}
 use Rattle.py_script.specs.ReplyLine.{hex_of}
 use Rattle.py_script.proofs.WordLaws.{writetext_line}
-use Rattle.py_script.proofs.word_laws.answered_texts_can_be_written.Goals as goal
+use Rattle.py_script.proofs.laws.answered_texts_can_be_written.Goals as goal
 
 pub returns : goal.returns
 returns c =

@@ -1,5 +1,5 @@
 use Rattle.py_script.proofs.OptionLaws.{any_order}
-use Rattle.py_script.proofs.option_laws.options_stand_in_any_order.Goals as goal
+use Rattle.py_script.proofs.laws.options_stand_in_any_order.Goals as goal
 
 pub returns : goal.returns
 returns c = any_order

@@ -1,5 +1,5 @@
 use Rattle.py_script.proofs.WordLaws.{write_line}
-use Rattle.py_script.proofs.word_laws.answered_bytes_can_be_written.Goals as goal
+use Rattle.py_script.proofs.laws.answered_bytes_can_be_written.Goals as goal
 
 pub returns : goal.returns
 returns c = write_line c.args.bytes.now c.read_bytes.ensures

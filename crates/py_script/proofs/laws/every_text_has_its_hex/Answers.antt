@@ -3,7 +3,7 @@ use Rattle.std.proofs.lemmas.Str.{encodes-chars}
 use Rattle.hex.specs.Hex.{IsBytes, encode_lower}
 use Rattle.py_script.specs.Words.{hex_text}
 use Rattle.py_script.proofs.OptionLemmas.{hex_text_of_utf8}
-use Rattle.py_script.proofs.option_laws.every_text_has_its_hex.Goals as goal
+use Rattle.py_script.proofs.laws.every_text_has_its_hex.Goals as goal
 
 pub returns : goal.returns
 returns c =

@@ -1,5 +1,5 @@
 use Rattle.py_script.proofs.OptionLaws.{each_once}
-use Rattle.py_script.proofs.option_laws.an_option_stands_once.Goals as goal
+use Rattle.py_script.proofs.laws.an_option_stands_once.Goals as goal
 
 pub returns : goal.returns
 returns c = each_once
