@@ -1,5 +1,7 @@
 //! Answers as words.
 use py_flat::IoFault;
+use py_stream::BufferedStream;
+use py_textio::{TextIOCookie, TextIOWrapper};
 use std::alloc::{AllocError, Global};
 
 /// Appends a refusal as words.
@@ -18,6 +20,9 @@ pub fn push_fault(alloc: Global, out: &mut String, fault: IoFault) -> Result<(),
         IoFault::BadArgument => out.push_str("err BadArgument"),
         IoFault::BufferError => out.push_str("err BufferError"),
         IoFault::Unsupported => out.push_str("err Unsupported"),
+        IoFault::BadWhence => out.push_str("err BadWhence"),
+        IoFault::InvalidCookie => out.push_str("err InvalidCookie"),
+        IoFault::CannotRestore => out.push_str("err CannotRestore"),
         IoFault::SeekFirst => out.push_str("err SeekFirst"),
         IoFault::TooFar => out.push_str("err TooFar"),
         IoFault::RawFault => out.push_str("err RawFault"),
@@ -45,5 +50,36 @@ pub fn push_answer(
         }
         Ok(None) => out.push_str("not ready"),
         Err(fault) => push_fault(alloc, out, fault),
+    }
+}
+
+/// Appends where a text stands, or was put: a cookie by its 25 bytes.
+pub fn push_cookie(
+    alloc: Global,
+    out: &mut String,
+    answer: Result<TextIOCookie, IoFault>,
+) -> Result<(), AllocError> {
+    let cookie = match answer {
+        Ok(cookie) => cookie,
+        Err(fault) => return push_fault(alloc, out, fault),
+    };
+    out.push_str("cookie ")?;
+    match cookie.build() {
+        Some(bytes) => out.push_str(hex::encode(alloc, &bytes[..])?.as_str()),
+        None => out.push_str("of a negative field"),
+    }
+}
+
+/// Puts a text where words say, and appends what that answered: a whence and a cookie as `0,HEX`, without a comma one of no bytes.
+pub fn push_sought<B: BufferedStream>(
+    alloc: Global,
+    out: &mut String,
+    text: &mut TextIOWrapper<B>,
+    words: &str,
+) -> Result<(), AllocError> {
+    let (whence, bytes) = words.split_once(',').unwrap_or((words, ""));
+    match (whence.parse(), hex::decode(alloc, bytes.as_bytes())) {
+        (Ok(whence), Ok(cookie)) => push_cookie(alloc, out, text.seek(alloc, &cookie, whence)),
+        _ => out.push_str("no such seek"),
     }
 }

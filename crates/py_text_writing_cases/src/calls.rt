@@ -2,7 +2,9 @@
 use crate::shown::push_apart;
 use anyhow::{Result, anyhow};
 use py_flat::IoFault;
-use py_text_trials::{Under, push_answer, push_fault, split, take_parts_apart};
+use py_text_trials::{
+    Under, push_answer, push_cookie, push_fault, push_sought, split, take_parts_apart,
+};
 use py_textio::{TextDetached, TextIOWrapper};
 use std::alloc::{AllocError, Global};
 
@@ -72,13 +74,16 @@ fn size_of(word: &str) -> Option<usize> {
 }
 
 /// Makes a call: `wTEXT` writes a text, `f` flushes, `c` closes, `d` detaches, `r` reads all, `r2` two characters, `l` a line, `l2` at most
-/// two characters of one, `k2` sets chunks of two bytes.
+/// two characters of one, `k2` sets chunks of two bytes, `tell` asks where the text stands, `seek0,HEX` puts it where a cookie says, by whence 0.
 fn call<B: Under>(
     alloc: Global,
     text: &mut TextIOWrapper<B>,
     word: &str,
     out: &mut String,
 ) -> Result<()> {
+    if let Some(words) = word.strip_prefix("seek") {
+        return Ok(push_sought(alloc, out, text, words)?);
+    }
     let mut letters = word.chars();
     let kind = letters.next();
     let rest = letters.as_str();
@@ -97,6 +102,7 @@ fn call<B: Under>(
             text.readline(alloc, size_of(rest)),
             text.short(),
         )?,
+        Some('t') => push_cookie(alloc, out, text.tell())?,
         Some('k') => {
             let size = size_of(rest).unwrap_or(0);
             push_done(alloc, out, "set", text.set_chunksize(size))?;

@@ -6,8 +6,10 @@ use py_memio::BytesIO;
 use py_raw::RawFlags;
 use py_stream::{BufferedStream, NewRefused};
 use py_text::{Coder, Reconfigure, TextSettings};
-use py_text_trials::{coder, plan_of, push_answer, push_fault, raw_of, rule, split};
-use py_textio::{TextIOCookie, TextIOWrapper};
+use py_text_trials::{
+    coder, plan_of, push_answer, push_cookie, push_fault, push_sought, raw_of, rule, split,
+};
+use py_textio::TextIOWrapper;
 use std::alloc::Global;
 
 /// Other settings, as `ENCODING,HANDLER,RULE`: a word that is no name of one leaves it.
@@ -23,21 +25,8 @@ fn changes(words: &str) -> Reconfigure {
     }
 }
 
-/// Appends where a text stands: a cookie by its 25 bytes.
-fn push_told(alloc: Global, out: &mut String, told: Result<TextIOCookie, IoFault>) -> Result<()> {
-    let cookie = match told {
-        Ok(cookie) => cookie,
-        Err(fault) => return Ok(push_fault(alloc, out, fault)?),
-    };
-    let Some(bytes) = cookie.build() else {
-        return Err(anyhow!("a cookie that can't be built"));
-    };
-    out.push_str("cookie ")?;
-    Ok(out.push_str(hex::encode(alloc, &bytes[..])?.as_str())?)
-}
-
 /// Makes a call: `r` of all, `r2` of two characters, `l` of a line, `l2` of at most two characters of one, `c` closes, `tell` asks where the
-/// text stands, and `slatin-1,-,lf` sets the encoding and the rule.
+/// text stands, `seek0,HEX` puts it where a cookie says, by whence 0, and `slatin-1,-,lf` sets the encoding and the rule.
 fn call<B: BufferedStream>(
     alloc: Global,
     text: &mut TextIOWrapper<B>,
@@ -45,7 +34,10 @@ fn call<B: BufferedStream>(
     out: &mut String,
 ) -> Result<()> {
     if word == "tell" {
-        return push_told(alloc, out, text.tell());
+        return Ok(push_cookie(alloc, out, text.tell())?);
+    }
+    if let Some(words) = word.strip_prefix("seek") {
+        return Ok(push_sought(alloc, out, text, words)?);
     }
     let mut letters = word.chars();
     let kind = letters.next();

@@ -1,10 +1,10 @@
 //! What is read in a sweep, by which calls, over which raws.
 use crate::places::Places;
-use crate::samples::{BLOCK, CALLS, FILLER, SAMPLES, telling};
+use crate::samples::{BLOCK, CALLS, FILLER};
 use py_flat::IoFault;
 use py_plain_text::{PlainPlace, PlainSettings};
 use py_text::Encoding;
-use py_text_trials::Asking;
+use py_text_trials::{Asking, SAMPLES, telling};
 use std::alloc::{AllocError, Global};
 
 /// How many calls are made on each text.
