@@ -4,6 +4,7 @@
 #![tactic(auto)]
 
 mod reading;
+mod sought;
 mod task;
 mod writing;
 
@@ -59,7 +60,7 @@ fn once(rt: &HostRuntime, task: Task, piece: &str, path: &str) -> Option<Counts>
 fn main(rt: HostRuntime) -> io::Result<()> {
     let Some(asked) = FileTask::from_command_line(&rt, Task::from_word)? else {
         return rt.println(
-            "usage: py_text_bench whole|lines|pieces|long|told|writes-ascii[-crlf]|writes-mixed[-crlf]|large-mixed <path> <rounds>",
+            "usage: py_text_bench whole|lines|pieces|long|told|sought|writes-ascii[-crlf]|writes-mixed[-crlf]|large-mixed <path> <rounds>",
         );
     };
     let piece = mixed_piece(rt.alloc())?;

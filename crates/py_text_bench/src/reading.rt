@@ -1,3 +1,4 @@
+use crate::sought::read_sought;
 use py_bench::Counts;
 use py_flat::IoFault;
 use py_stream::BufferedStream;
@@ -15,6 +16,8 @@ pub(crate) enum Reading {
     Pieces,
     /// Lines, and after each of them where the text stands.
     Told,
+    /// Lines in no order, each once a cookie put the text there.
+    Sought,
 }
 
 impl Reading {
@@ -24,12 +27,15 @@ impl Reading {
         alloc: Global,
         text: &mut TextIOWrapper<B>,
     ) -> Result<Counts, IoFault> {
+        if self == Reading::Sought {
+            return read_sought(alloc, text);
+        }
         let mut counts = Counts::new();
         for _ in 0..u64::MAX {
             let answer = match self {
                 Reading::Whole => text.read(alloc, None)?,
-                Reading::Lines | Reading::Told => text.readline(alloc, None)?,
                 Reading::Pieces => text.read(alloc, Some(PIECE))?,
+                _ => text.readline(alloc, None)?,
             };
             let Some(answer) = answer else {
                 continue;

@@ -18,6 +18,7 @@ impl Task {
             "lines" | "long" => Some(Task::Reads(Reading::Lines)),
             "pieces" => Some(Task::Reads(Reading::Pieces)),
             "told" => Some(Task::Reads(Reading::Told)),
+            "sought" => Some(Task::Reads(Reading::Sought)),
             "writes-ascii" => Some(Task::Writes(Writing::AsciiLines)),
             "writes-mixed" => Some(Task::Writes(Writing::MixedLines)),
             "writes-ascii-crlf" => Some(Task::Writes(Writing::AsciiCrlf)),

@@ -1,6 +1,7 @@
-//! The examples of docs/TEXTS.md: each answers a line, which is printed. `stdout` has what must come.
+//! The examples of docs/TEXTS.md and docs/COOKIES.md: each answers a line, which is printed. `stdout` has what must come.
 #![tactic(auto)]
 
+mod indexing;
 mod line_ends;
 mod lines;
 mod making;
@@ -33,6 +34,8 @@ fn main(rt: HostRuntime) -> Result<()> {
     print(&rt, line_ends::pieces(alloc))?;
     print(&rt, line_ends::found(alloc))?;
     print(&rt, lines::of_both(alloc))?;
+    print(&rt, indexing::indexed(alloc))?;
+    print(&rt, indexing::unfit(alloc))?;
     print(&rt, writing::written(alloc))?;
     print(&rt, writing::read_in_part(alloc))?;
     print(&rt, writing::by_lines(alloc))?;

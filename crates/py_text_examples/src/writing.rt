@@ -57,7 +57,7 @@ pub(crate) fn read_in_part(alloc: Global) -> Result<String> {
     shown_behind(
         alloc,
         written,
-        bytes.as_slice() == b"one\ntwo\nthreeX".as_slice(),
+        bytes.as_slice() == b"one\nXwo\nthreeY".as_slice(),
     )
 }
 
@@ -68,13 +68,15 @@ fn lent_read_in_part(
 ) -> Result<(bool, usize), IoFault> {
     let line = text.readline(alloc, None)?; // Some("one\n")
     let is_refused = text.write(alloc, "X") == Err(IoFault::SeekFirst); // as it was
-    let rest = text.read(alloc, None)?; // Some("two\nthree"): its end
-    let count = text.write(alloc, "X")?; // 1, behind all that was read
-    let is_read = characters(&line) == "one\n" && characters(&rest) == "two\nthree";
-    Ok((is_refused && is_read, count))
+    text.seek(alloc, &[], 1)?; // where it stands
+    let there = text.write(alloc, "X")?; // 1, behind "one\n"
+    let rest = text.read(alloc, None)?; // Some("wo\nthree"): its end
+    let behind = text.write(alloc, "Y")?; // 1, behind all that was read
+    let is_read = characters(&line) == "one\n" && characters(&rest) == "wo\nthree";
+    Ok((is_refused && is_read, there.saturating_add(behind)))
 }
 
-/// Whether the first write was refused, how many characters the second took, and whether its bytes are behind the others.
+/// Whether the first write was refused, how many characters the others took, and whether their bytes lie where they belong.
 fn shown_behind(
     alloc: Global,
     written: Result<(bool, usize), IoFault>,
