@@ -1,6 +1,6 @@
 //! Sources over readers and sinks over writers, as standard input and output.
 use crate::fake::Holding;
-use py_source_sink::{Failed, ReadSource, Sink, Source, WriteSink};
+use py_raw::{Failed, ReadSource, Sink, Source, WriteSink};
 use std::alloc::AllocError;
 use std::io;
 use std::io::{Cursor, ErrorKind, Read, Write};

@@ -7,6 +7,7 @@ mod buffered_reader;
 mod buffered_writer;
 mod kind;
 mod lines;
+mod pair;
 
 pub use buffered_over::BufferedOver;
 pub use buffered_random::BufferedRandom;
@@ -16,4 +17,5 @@ pub use kind::{
     AlsoRead, BufferedKind, NotRead, ReadOnly, ReadWrite, ReadsToo, WriteOnly, WritingKind, Written,
 };
 pub use lines::BufferedLines;
+pub use pair::BufferedRWPair;
 pub use py_stream::{Detached, NewRefused, Whence, a_seek_to_the_told_place_keeps_all};

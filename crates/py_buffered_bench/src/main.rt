@@ -9,11 +9,11 @@ mod seeking;
 mod task;
 mod writing;
 
+use py_adapters::StdStream;
 use py_bench::{Counts, FileTask, best_of};
 use py_buffered::{BufferedReader, BufferedWriter};
 use py_raw::Opener;
 use py_raw_files::FileOpener;
-use py_std::StdStream;
 use reading::{
     Reading, read_lent, read_lent_by_std, read_lines_by_std, read_small, read_small_by_std,
 };

@@ -23,10 +23,10 @@ use Rattle.py_stream.specs.Opening.{Opens}
 use Rattle.py_calls.specs.declared.call.Call.TheVariants as call
 use Rattle.py_calls.specs.declared.reply.Reply.{Reply}
 use Rattle.py_calls.specs.Calls.{said}
-use Rattle.py_mode.specs.declared.mode.FileMode.TheVariants as mode
-use Rattle.py_mode.specs.declared.mode.EncodeMode.TheVariants as encode
-use Rattle.py_mode.specs.declared.plan.OpenPlan.{OpenPlan}
-use Rattle.py_mode.specs.declared.plan.PlanKind.TheVariants as kind
+use Rattle.py_calls.specs.declared.mode.FileMode.TheVariants as mode
+use Rattle.py_calls.specs.declared.mode.EncodeMode.TheVariants as encode
+use Rattle.py_calls.specs.declared.plan.OpenPlan.{OpenPlan}
+use Rattle.py_calls.specs.declared.plan.PlanKind.TheVariants as kind
 use Rattle.py_binary.specs.Binary.{AnswersBinary}
 use Rattle.py_stream.specs.Access.{can_of, is_able}
 use Rattle.py_stream.specs.declared.access.Access.TheVariants as access

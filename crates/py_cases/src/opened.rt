@@ -7,14 +7,15 @@ use crate::session_case::SessionCase;
 use anyhow::Result;
 use py_binary::{Access, BinarySession};
 use py_flat::Life;
-use py_open::{Call, Detached, OpenArgs, OpenRefused, Reply, Run, Session, run_session};
+use py_open::{
+    Call, Detached, OpenArgs, OpenRefused, Reply, Run, Session, TextSession, run_session,
+};
 use py_raw::{GREATEST_PLACE, RawFlags, RawStream};
 use py_raw_memory::MemRaw;
 use py_registry::{CodecsRegistry, NoHandler, NoSearch};
 use py_script::{Command, parse_words};
 use py_stream::NewRefused;
 use py_text::{Coder, Encoding, Handler, Newlines, TextSettings};
-use py_text_session::TextSession;
 use std::alloc::Global;
 
 /// A session: as a plan opens it, or with a buffer of any size.

@@ -1,10 +1,10 @@
 //! A text that is read, without a session.
 use py_flat::IoFault;
+use py_open::TextSession;
 use py_raw::{Chars, RawFlags};
 use py_raw_memory::MemRaw;
 use py_stream::Access;
 use py_text::{Coder, Encoding, Handler, Newlines, TextSettings};
-use py_text_session::TextSession;
 use std::alloc::Global;
 use std::process::Abort;
 use std::test::Fail;

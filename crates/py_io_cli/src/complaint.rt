@@ -2,7 +2,7 @@
 //! who has to act on it.
 
 use crate::noting::Noting;
-use py_mode::{OpenArgs, plan_open};
+use py_calls::{OpenArgs, plan_open};
 use py_program::Status;
 use py_raw::{IoFault, Source};
 use py_raw_files::FileOpener;

@@ -44,19 +44,19 @@ use Rattle.py_calls.specs.declared.call.Call.TheVariants as call
 use Rattle.py_calls.specs.declared.reply.Reply.{Reply}
 use Rattle.py_calls.specs.declared.reply.Reply.TheVariants as reply
 use Rattle.py_calls.specs.Calls.{text_call, said}
-use Rattle.py_mode.specs.declared.mode.FileMode.TheVariants as mode
-use Rattle.py_mode.specs.declared.mode.Mode.{Mode}
-use Rattle.py_mode.specs.declared.plan.OpenPlan.{OpenPlan}
-use Rattle.py_mode.specs.declared.plan.PlanKind.{PlanKind}
-use Rattle.py_mode.specs.declared.plan.PlanKind.TheVariants as kind
-use Rattle.py_mode.specs.declared.plan.TextPlan.{TextPlan}
-use Rattle.py_mode.specs.Mode.{reads, writes}
-use Rattle.py_mode.specs.Plan.{IsPlannedAs, IsPlanned}
+use Rattle.py_calls.specs.declared.mode.FileMode.TheVariants as mode
+use Rattle.py_calls.specs.declared.mode.Mode.{Mode}
+use Rattle.py_calls.specs.declared.plan.OpenPlan.{OpenPlan}
+use Rattle.py_calls.specs.declared.plan.PlanKind.{PlanKind}
+use Rattle.py_calls.specs.declared.plan.PlanKind.TheVariants as kind
+use Rattle.py_calls.specs.declared.plan.TextPlan.{TextPlan}
+use Rattle.py_calls.specs.Mode.{reads, writes}
+use Rattle.py_calls.specs.Plan.{IsPlannedAs, IsPlanned}
 use Rattle.py_read_text.specs.TextState as state
 use Rattle.py_read_text.specs.TextState.{TextState}
 use Rattle.py_read_text.specs.Answers as over
-use Rattle.py_text_session.specs.Handing.{left_by, AnswersCall}
-use Rattle.py_text_session.specs.Opening.{text_opened, OpensText}
+use Rattle.py_open.specs.TextHanding.{left_by, AnswersCall}
+use Rattle.py_open.specs.TextOpening.{text_opened, OpensText}
 use Rattle.py_open.specs.Session.{OfText, SessionView, TextSession, BinarySession, IsDetachedText, LeftBy, AnswersTextBy, Answers, raw_of, file_seen, life_of}
 use Rattle.py_open.specs.Opening.{access_of, text_settings, OpensBy, OpensSession}
 use Rattle.py_open.specs.Run.{IsRun, IsSmooth}

@@ -16,13 +16,13 @@ use Rattle.py_calls.specs.declared.reply.Reply.{Reply}
 use Rattle.py_calls.specs.declared.reply.Reply.TheVariants as reply
 use Rattle.py_calls.specs.Calls.{file_call, said}
 use Rattle.py_stream.specs.declared.access.Access.{Access}
-use Rattle.py_mode.specs.declared.plan.OpenPlan.{OpenPlan}
-use Rattle.py_mode.specs.declared.plan.PlanKind.{PlanKind}
-use Rattle.py_mode.specs.declared.plan.PlanKind.TheVariants as kind
+use Rattle.py_calls.specs.declared.plan.OpenPlan.{OpenPlan}
+use Rattle.py_calls.specs.declared.plan.PlanKind.{PlanKind}
+use Rattle.py_calls.specs.declared.plan.PlanKind.TheVariants as kind
 use Rattle.py_plain_text.specs.TextCalls as text
 use Rattle.py_read_text.specs.TextState.{TextState}
-use Rattle.py_text_session.specs.Handing.{AnswersCall}
-use Rattle.py_text_session.specs.Session.{IsOpen}
+use Rattle.py_open.specs.TextHanding.{AnswersCall}
+use Rattle.py_open.specs.TextSession.{IsOpen}
 use Rattle.py_binary.specs.Binary.{has_reply_room, AnswersBy}
 use Rattle.py_open.specs.Session.{SessionView, TextSession, BinarySession, raw_of, life_of, owed_of, IsInStep, IsOpenBelow, HasOpenRaw, IsKept, IsShut, ClosesRaw, Answers}
 use Rattle.py_open.specs.Opening.{access_of, OpensBy, OpensSession}

@@ -32,7 +32,7 @@ use Rattle.py_read_text.specs.TextState as state
 use Rattle.py_read_text.specs.TextState.{TextState}
 use Rattle.py_read_text.specs.Answers as over
 use Rattle.py_read_text.specs.Answers.{IsPassedOn}
-use Rattle.py_text_session.specs.Session.{OwesNothing}
+use Rattle.py_open.specs.TextSession.{OwesNothing}
 use Rattle.py_binary.specs.Binary.{has_reply_room, left_by, left_of, AnswersBy}
 use Rattle.py_open.specs.Session.{OfText, OfBinary, SessionView, TextSession, BinarySession, SaysOrStarves, file_seen, raw_of, life_of, AnswersTextBy, Answers, IsInStep}
 use Rattle.py_open.specs.Laws.{FilePassesAll, TextPassesAll, PassesAll, text_left, HoldsFlat, ShownBy, asks_name, closed_text_by, closed_file_reply, closed_file_by, closed_reply, WhereShown}

@@ -6,9 +6,9 @@ use Rattle.py_raw.specs.RawStream.{Raw}
 use Rattle.py_raw.specs.Opener.{OpenerView, Opens, misses}
 use Rattle.py_registry.specs.declared.codec.PyCodec.{PyCodec}
 use Rattle.py_registry.specs.Machine.{Machine}
-use Rattle.py_mode.specs.declared.open_args.OpenArgs.{OpenArgs}
-use Rattle.py_mode.specs.declared.plan.OpenPlan.{OpenPlan}
-use Rattle.py_mode.specs.Plan.{plan_of}
+use Rattle.py_calls.specs.declared.open_args.OpenArgs.{OpenArgs}
+use Rattle.py_calls.specs.declared.plan.OpenPlan.{OpenPlan}
+use Rattle.py_calls.specs.Plan.{plan_of}
 use Rattle.py_open.specs.declared.open_failed.OpenFailed.{OpenFailed}
 use Rattle.py_open.specs.declared.open_failed.OpenFailed.TheVariants as failed
 use Rattle.py_open.specs.Session.{SessionView}

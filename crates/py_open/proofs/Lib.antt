@@ -1,3 +1,10 @@
+mod TextGone
+pub mod TextKeeping
+mod TextOpening
+mod Parting
+pub mod Detaching
+mod Blaming
+mod Losing
 pub mod TextLeft
 pub mod Steps
 pub mod Ending

@@ -14,11 +14,11 @@ use Rattle.py_stream.specs.Stream.{Stream, buffering_of, file_of}
 use Rattle.py_stream.specs.Opening.{Opens, begins_at, tells_start}
 use Rattle.py_stream.specs.Access.{can_of, is_able}
 use Rattle.py_stream.specs.declared.access.Access.{Access}
-use Rattle.py_mode.specs.declared.plan.PlanKind.{PlanKind}
-use Rattle.py_mode.specs.declared.plan.PlanKind.TheVariants as kind
-use Rattle.py_mode.specs.declared.mode.Mode.{Mode}
-use Rattle.py_mode.specs.declared.plan.OpenPlan.{OpenPlan}
-use Rattle.py_text_session.specs.Opening.{text_opened, OpensText}
+use Rattle.py_calls.specs.declared.plan.PlanKind.{PlanKind}
+use Rattle.py_calls.specs.declared.plan.PlanKind.TheVariants as kind
+use Rattle.py_calls.specs.declared.mode.Mode.{Mode}
+use Rattle.py_calls.specs.declared.plan.OpenPlan.{OpenPlan}
+use Rattle.py_open.specs.TextOpening.{text_opened, OpensText}
 use Rattle.py_open.specs.Session.{OfText, OfBinary, SessionView, TextSession, BinarySession, file_seen}
 use Rattle.py_open.specs.Opening.{access_of, text_settings, OpensBy, OpensSession}
 use Rattle.py_open.specs.OpenedFile.{begins_with, file_by, opened_file}

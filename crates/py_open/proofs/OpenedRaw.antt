@@ -8,14 +8,14 @@ use Rattle.py_raw.specs.RawStream.{Raw}
 use Rattle.py_stream.specs.declared.access.Access.{Access}
 use Rattle.py_stream.specs.declared.access.Access.TheVariants as access
 use Rattle.py_stream.specs.Access.{is_able}
-use Rattle.py_mode.specs.declared.plan.OpenPlan.{OpenPlan}
-use Rattle.py_mode.specs.declared.mode.FileMode.{FileMode}
-use Rattle.py_mode.specs.declared.mode.FileMode.TheVariants.{Read, Write, Exclusive, Append}
-use Rattle.py_mode.specs.Mode.{letter_of}
-use Rattle.py_mode.specs.declared.mode.Mode.{Mode}
-use Rattle.py_mode.specs.declared.plan.PlanKind.{PlanKind}
-use Rattle.py_mode.specs.declared.plan.PlanKind.TheVariants as kind
-use Rattle.py_mode.specs.Plan.{buffer_of, IsPlannedAs, IsPlanned}
+use Rattle.py_calls.specs.declared.plan.OpenPlan.{OpenPlan}
+use Rattle.py_calls.specs.declared.mode.FileMode.{FileMode}
+use Rattle.py_calls.specs.declared.mode.FileMode.TheVariants.{Read, Write, Exclusive, Append}
+use Rattle.py_calls.specs.Mode.{letter_of}
+use Rattle.py_calls.specs.declared.mode.Mode.{Mode}
+use Rattle.py_calls.specs.declared.plan.PlanKind.{PlanKind}
+use Rattle.py_calls.specs.declared.plan.PlanKind.TheVariants as kind
+use Rattle.py_calls.specs.Plan.{buffer_of, IsPlannedAs, IsPlanned}
 use Rattle.py_open.specs.Opening.{access_by, access_of, suits_plan, RefusesSession}
 use Rattle.py_open.specs.Paths.{raw_mode, RefusesOpened, RefusesOrLacks}
 

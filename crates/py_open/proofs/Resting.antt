@@ -17,7 +17,7 @@ use Rattle.py_calls.specs.declared.reply.Reply.{Reply}
 use Rattle.py_calls.specs.Calls.{text_call, file_call, said}
 use Rattle.py_read_text.specs.TextState as state
 use Rattle.py_read_text.specs.TextState.{TextState}
-use Rattle.py_text_session.specs.Handing.{AnswersCall}
+use Rattle.py_open.specs.TextHanding.{AnswersCall}
 use Rattle.py_binary.specs.Binary.{has_reply_room, AnswersBy}
 use Rattle.py_open.specs.Session.{SessionView, TextSession, BinarySession, raw_of, life_of, AnswersTextBy, Answers}
 use Rattle.py_open.specs.Laws.{closed_file_reply}

@@ -36,8 +36,8 @@ use Rattle.py_read_text.specs.TextState as state
 use Rattle.py_read_text.specs.TextState.{TextState}
 use Rattle.py_read_text.specs.Answers as over
 use Rattle.py_textio.proofs.Smooth.{text_alone, uncaused}
-use Rattle.py_text_session.specs.Session.{OwesNothing}
-use Rattle.py_text_session.specs.Handing as session
+use Rattle.py_open.specs.TextSession.{OwesNothing}
+use Rattle.py_open.specs.TextHanding as session
 use Rattle.py_open.proofs.TextLeft.{call_raw, call_can, call_buffering, call_settings, call_life, call_closed, call_owes, told_at, left_text, left_as_it_is}
 use Rattle.py_binary.specs.Binary.{gone_stream, left_by, left_of, HandsOwed, AnswersCall, AnswersBy}
 use Rattle.py_binary.proofs.Leaving.{attached_on}

@@ -15,10 +15,10 @@ use Rattle.py_read_text.specs.TextState.{TextState}
 use Rattle.py_read_text.specs.Owing.{all_owed}
 use Rattle.py_read_text.specs.Answers as over
 use Rattle.py_read_text.proofs.Living.{lives_on}
-use Rattle.py_text_session.specs.Session.{OwesNothing}
-use Rattle.py_text_session.specs.Handing.{left_by, left_of, gone_text, HandsOwed, AnswersCall}
-use Rattle.py_text_session.proofs.Keeping.{not_detached}
-use Rattle.py_text_session.proofs.Detaching.{laid_all}
+use Rattle.py_open.specs.TextSession.{OwesNothing}
+use Rattle.py_open.specs.TextHanding.{left_by, left_of, gone_text, HandsOwed, AnswersCall}
+use Rattle.py_open.proofs.TextKeeping.{not_detached}
+use Rattle.py_open.proofs.Detaching.{laid_all}
 use Rattle.py_open.specs.Session.{IsDetachedText, LeftBy, TextLeft, unwritten_in}
 use Rattle.py_open.specs.Laws.{without_place, left_exactly}
 

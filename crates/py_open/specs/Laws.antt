@@ -31,7 +31,7 @@ use Rattle.py_read_text.specs.TextState as state
 use Rattle.py_read_text.specs.TextState.{TextState}
 use Rattle.py_read_text.specs.Answers as over
 use Rattle.py_read_text.specs.Owing.{has_line_end}
-use Rattle.py_text_session.specs.Session.{OwesNothing}
+use Rattle.py_open.specs.TextSession.{OwesNothing}
 use Rattle.py_binary.specs.Binary.{detached_fault}
 use Rattle.py_open.specs.Session.{SessionFile, OfText, OfBinary, SessionView, TextSession, BinarySession, raw_of, file_seen, owed_of, flat_bytes, SaysOrStarves, flag_seen, Answers}
 use Rattle.py_open.specs.Run.{Entry, IsRun, IsMarkedRun, IsHistory, IsSmooth, NoneLacksMemory, calls_of, replies_of, all_said}

@@ -1,3 +1,9 @@
+pub mod TextSession
+pub mod TextAnswers
+pub mod TextOpening
+pub mod TextHanding
+pub mod TextLaws
+pub mod TextLines
 pub mod Session
 pub mod Kinds
 pub mod Opening

@@ -5,12 +5,12 @@ use Rattle.py_flat.specs.FlatFile.{FlatFile}
 use Rattle.py_plain_text.specs.TextFile.{TextFile}
 use Rattle.py_stream.specs.Stream.{buffering_of}
 use Rattle.py_stream.specs.Access.{can_of}
-use Rattle.py_mode.specs.declared.plan.PlanKind.{PlanKind}
-use Rattle.py_mode.specs.declared.plan.PlanKind.TheVariants as kind
-use Rattle.py_mode.specs.declared.plan.TextPlan.{TextPlan}
-use Rattle.py_mode.specs.declared.mode.Mode.{Mode}
-use Rattle.py_mode.specs.declared.plan.OpenPlan.{OpenPlan}
-use Rattle.py_text_session.specs.Opening.{text_opened}
+use Rattle.py_calls.specs.declared.plan.PlanKind.{PlanKind}
+use Rattle.py_calls.specs.declared.plan.PlanKind.TheVariants as kind
+use Rattle.py_calls.specs.declared.plan.TextPlan.{TextPlan}
+use Rattle.py_calls.specs.declared.mode.Mode.{Mode}
+use Rattle.py_calls.specs.declared.plan.OpenPlan.{OpenPlan}
+use Rattle.py_open.specs.TextOpening.{text_opened}
 use Rattle.py_open.specs.Session.{SessionFile, OfText, OfBinary}
 use Rattle.py_open.specs.Opening.{access_of, text_settings}
 

@@ -7,18 +7,18 @@ use Rattle.py_stream.specs.Opening.{Opens, RefusesRaw}
 use Rattle.py_stream.specs.declared.access.Access.{Access}
 use Rattle.py_stream.specs.declared.access.Access.TheVariants as access
 use Rattle.py_stream.specs.Access.{can_of, is_able}
-use Rattle.py_mode.specs.declared.mode.FileMode.{FileMode}
-use Rattle.py_mode.specs.declared.mode.FileMode.TheVariants.{Read, Append}
-use Rattle.py_mode.specs.declared.mode.Mode.{Mode}
-use Rattle.py_mode.specs.declared.plan.OpenPlan.{OpenPlan}
-use Rattle.py_mode.specs.declared.plan.PlanKind.{PlanKind}
-use Rattle.py_mode.specs.declared.plan.PlanKind.TheVariants as kind
-use Rattle.py_mode.specs.declared.plan.TextPlan.{TextPlan}
-use Rattle.py_mode.specs.Plan.{buffer_of}
+use Rattle.py_calls.specs.declared.mode.FileMode.{FileMode}
+use Rattle.py_calls.specs.declared.mode.FileMode.TheVariants.{Read, Append}
+use Rattle.py_calls.specs.declared.mode.Mode.{Mode}
+use Rattle.py_calls.specs.declared.plan.OpenPlan.{OpenPlan}
+use Rattle.py_calls.specs.declared.plan.PlanKind.{PlanKind}
+use Rattle.py_calls.specs.declared.plan.PlanKind.TheVariants as kind
+use Rattle.py_calls.specs.declared.plan.TextPlan.{TextPlan}
+use Rattle.py_calls.specs.Plan.{buffer_of}
 use Rattle.py_plain_text.specs.TextFile.{TextSettings}
 use Rattle.py_read_text.specs.TextState.{settings_of}
-use Rattle.py_text_session.specs.Opening.{OpensText}
-use Rattle.py_text_session.specs.Handing as text
+use Rattle.py_open.specs.TextOpening.{OpensText}
+use Rattle.py_open.specs.TextHanding as text
 use Rattle.py_binary.specs.Binary.{place_left}
 use Rattle.py_open.specs.Session.{SessionView, TextSession, BinarySession}
 

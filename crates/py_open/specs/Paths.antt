@@ -8,10 +8,10 @@ use Rattle.py_raw.specs.Opener.{OpenerView, Opens, OpenFaults, OpenLacksMemory, 
 use Rattle.py_stream.specs.declared.access.Access.TheVariants as access
 use Rattle.py_registry.specs.declared.codec.PyCodec.{PyCodec}
 use Rattle.py_registry.specs.Machine.{Machine}
-use Rattle.py_mode.specs.Mode.{letter_of}
-use Rattle.py_mode.specs.declared.open_args.OpenArgs.{OpenArgs}
-use Rattle.py_mode.specs.declared.plan.OpenPlan.{OpenPlan}
-use Rattle.py_mode.specs.Plan.{buffer_of, plan_of, PlanAsksFunctions, RefusesPlan, Accepts}
+use Rattle.py_calls.specs.Mode.{letter_of}
+use Rattle.py_calls.specs.declared.open_args.OpenArgs.{OpenArgs}
+use Rattle.py_calls.specs.declared.plan.OpenPlan.{OpenPlan}
+use Rattle.py_calls.specs.Plan.{buffer_of, plan_of, PlanAsksFunctions, RefusesPlan, Accepts}
 use Rattle.py_open.specs.declared.open_failed.OpenFailed.{OpenFailed}
 use Rattle.py_open.specs.declared.open_failed.OpenFailed.TheVariants as failed
 use Rattle.py_open.specs.Session.{SessionView, file_seen}

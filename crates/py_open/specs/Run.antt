@@ -9,9 +9,9 @@ use Rattle.py_stream.specs.Kinds.{says_fault}
 use Rattle.py_calls.specs.declared.call.Call.{Call}
 use Rattle.py_calls.specs.declared.reply.Reply.{Reply}
 use Rattle.py_calls.specs.Calls.{said}
-use Rattle.py_mode.specs.declared.plan.OpenPlan.{OpenPlan}
-use Rattle.py_mode.specs.declared.open_args.OpenArgs.{OpenArgs}
-use Rattle.py_mode.specs.Plan.{RefusesPlan, Accepts}
+use Rattle.py_calls.specs.declared.plan.OpenPlan.{OpenPlan}
+use Rattle.py_calls.specs.declared.open_args.OpenArgs.{OpenArgs}
+use Rattle.py_calls.specs.Plan.{RefusesPlan, Accepts}
 use Rattle.py_registry.specs.declared.codec.PyCodec.{PyCodec}
 use Rattle.py_registry.specs.Machine.{Machine}
 use Rattle.py_open.specs.declared.run.Run.{Run}

@@ -25,8 +25,8 @@ use Rattle.py_calls.specs.Calls.{text_call, file_call, said}
 use Rattle.py_read_text.specs.TextState as state
 use Rattle.py_read_text.specs.TextState.{TextState}
 use Rattle.py_read_text.specs.Owing.{all_owed}
-use Rattle.py_text_session.specs.Session.{IsOpen, OwesNothing}
-use Rattle.py_text_session.specs.Handing.{AnswersCall}
+use Rattle.py_open.specs.TextSession.{IsOpen, OwesNothing}
+use Rattle.py_open.specs.TextHanding.{AnswersCall}
 use Rattle.py_binary.specs.Binary.{flag_of, AnswersBinary}
 
 -- a session, by its kind

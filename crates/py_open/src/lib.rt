@@ -11,6 +11,10 @@ mod paths;
 mod run;
 mod session;
 mod text_calls;
+mod text_laws;
+mod text_lines;
+mod text_session;
+mod unwritten;
 
 pub use laws::{
     a_calm_history_settles, a_closed_session_stays_closed, a_detached_file_stays_as_it_is,
@@ -25,13 +29,16 @@ pub use laws::{
 pub use open_failed::OpenFailed;
 pub use open_refused::OpenRefused;
 pub use paths::{io_open, open_code};
-pub use py_calls::{Call, Reconfigure, Reply, TextIOCookie};
-pub use py_flat::ParseModeError;
-pub use py_mode::{
-    DEFAULT_BUFFER_SIZE, EncodeMode, FileMode, Mode, OpenArgs, OpenPlan, PlanKind, TextPlan,
-    plan_open, text_encoding,
+pub use py_calls::{
+    Call, DEFAULT_BUFFER_SIZE, EncodeMode, FileMode, Mode, OpenArgs, OpenPlan, PlanKind,
+    Reconfigure, Reply, TextIOCookie, TextPlan, plan_open, text_encoding,
 };
+pub use py_flat::ParseModeError;
 pub use py_registry::{CodecsRegistry, SearchFunction};
-pub use py_stream::{Detached, Whence};
+pub use py_stream::{Access, Detached, NewRefused, Whence};
 pub use run::{Run, run_planned, run_session};
 pub use session::Session;
+pub use text_laws::{a_wait_loses_nothing, settled_only_blames_itself};
+pub use text_lines::TextLines;
+pub use text_session::TextSession;
+pub use unwritten::TextUnwritten;

@@ -1,7 +1,7 @@
 //! Opening a path: what a mode and arguments set up, over a raw stream that an opener opens for it.
 ghost use Rattle.std.specs.Prelude.{◌≡◌, chars, codes, option_map, IsTrue, Some};
-ghost use Rattle.py_mode.specs.OpenArgs.{default_args};
-ghost use Rattle.py_mode.specs.Plan.{IsPlanned};
+ghost use Rattle.py_calls.specs.OpenArgs.{default_args};
+ghost use Rattle.py_calls.specs.Plan.{IsPlanned};
 ghost use Rattle.py_raw.specs.Opener.{OpenKeeps};
 ghost use Rattle.py_open.specs.Paths.{mode_or_r, PathOutcome, IoOpenOutcome, FailsWhereMissed};
 

@@ -1,6 +1,6 @@
 //! Runs: a session that is opened, and a list of calls that are made on it in order.
 ghost use Rattle.py_stream.specs.Opening.{StandsAtStart};
-ghost use Rattle.py_mode.specs.Plan.{IsPlanned};
+ghost use Rattle.py_calls.specs.Plan.{IsPlanned};
 ghost use Rattle.py_open.specs.Run.{OpenedOutcome, RunOutcome};
 
 use crate::session::raw_refusal;

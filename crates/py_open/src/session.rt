@@ -2,17 +2,16 @@
 ghost use Rattle.std.specs.Prelude.{◌≡◌};
 ghost use Rattle.py_stream.specs.Opening.{StandsAtStart, first_refusal};
 ghost use Rattle.py_open.specs.Session.{Answers, ClosesRaw, life_of, short_of, raw_of, owed_of};
-ghost use Rattle.py_mode.specs.Plan.{IsPlanned, buffer_of};
+ghost use Rattle.py_calls.specs.Plan.{IsPlanned, buffer_of};
 ghost use Rattle.py_open.specs.Kinds.{seen, IsSession};
 ghost use Rattle.py_open.specs.Opening.{SessionOutcome, access_of, suits_plan, place_handed};
 
 use crate::text_calls::answer_text;
-use crate::{Call, FileMode, Mode, OpenPlan, PlanKind, Reply, TextPlan};
+use crate::{Call, FileMode, Mode, OpenPlan, PlanKind, Reply, TextPlan, TextSession};
 use py_binary::{Access, BinarySession};
 use py_flat::{IoFault, Life};
 use py_raw::RawStream;
 use py_stream::{Detached, NewRefused, refused_at_first};
-use py_text_session::TextSession;
 use std::alloc::Global;
 use std::marker::Model;
 

@@ -5,14 +5,14 @@ ghost use Rattle.py_plain_text.specs.TextCalls.{is_getter};
 ghost use Rattle.py_calls.specs.Calls.{text_call, said};
 ghost use Rattle.py_stream.specs.Replies.{count_reply, done_reply};
 ghost use Rattle.py_read_text.specs.Answers.{cookie_reply};
-ghost use Rattle.py_text_session.specs.Answers as seen;
-ghost use Rattle.py_text_session.specs.Handing.{unwritten_reply};
+ghost use Rattle.py_open.specs.TextAnswers as seen;
+ghost use Rattle.py_open.specs.TextHanding.{unwritten_reply};
 ghost use Rattle.py_open.specs.Session.{SaysOrStarves, AnswersTextBy, AnswersText};
 
+use crate::{TextSession, TextUnwritten};
 use py_calls::{Call, Reply, TextIOCookie};
 use py_flat::{Chars, IoFault};
 use py_raw::{Data, RawStream};
-use py_text_session::{TextSession, TextUnwritten};
 use std::alloc::Global;
 
 /// Makes a call on a text; what a text doesn't have, it refuses.

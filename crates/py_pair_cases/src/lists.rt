@@ -4,7 +4,7 @@ ghost use Rattle.py_raw_memory.specs.MemRaw.{shown};
 ghost use Rattle.py_stream.specs.Opening.{StandsAtStart};
 
 use anyhow::Result;
-use py_pair::BufferedRWPair;
+use py_buffered::BufferedRWPair;
 use py_raw::{IoFault, RawFlags};
 use py_raw_memory::{Cut, MemRaw};
 use std::alloc::Global;

@@ -4,13 +4,13 @@ use Rattle.py_flat.specs.declared.fault.IoFault.{IoFault}
 use Rattle.py_flat.specs.declared.fault.IoFault.TheVariants as fault
 use Rattle.py_flat.specs.Causes.{Rose, RoseBy}
 use Rattle.py_raw.specs.RawStream.{Raw}
-use Rattle.py_source_sink.specs.Source.{SourceView}
+use Rattle.py_raw.specs.Source.{SourceView}
 use Rattle.py_raw.specs.Opener.{OpenerView, HoldsTheSame, OthersHoldTheSame, misses, opened_bytes}
 use Rattle.py_calls.specs.declared.call.Call.{Call}
 use Rattle.py_stream.specs.declared.access.Access.TheVariants as access
-use Rattle.py_mode.specs.declared.open_args.OpenArgs.{OpenArgs}
-use Rattle.py_mode.specs.declared.plan.OpenPlan.{OpenPlan}
-use Rattle.py_mode.specs.Plan.{built_in_plan}
+use Rattle.py_calls.specs.declared.open_args.OpenArgs.{OpenArgs}
+use Rattle.py_calls.specs.declared.plan.OpenPlan.{OpenPlan}
+use Rattle.py_calls.specs.Plan.{built_in_plan}
 use Rattle.py_open.specs.Opening.{access_of}
 use Rattle.py_script.specs.CommandWords.{Command, Run, Help, Version, command_of}
 use Rattle.py_program.specs.declared.status.Status.{Status}

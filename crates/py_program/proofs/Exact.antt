@@ -10,19 +10,19 @@ use Rattle.py_raw.specs.RawStream.{Raw, tells}
 use Rattle.py_raw.proofs.Telling.{tells_its_bytes, tells_still}
 use Rattle.py_raw.specs.RawMode.{raw_mode_text}
 use Rattle.py_raw.specs.Opener.{opened_bytes}
-use Rattle.py_source_sink.specs.Source.{SourceView}
+use Rattle.py_raw.specs.Source.{SourceView}
 use Rattle.py_stream.specs.declared.access.Access.{Access}
 use Rattle.py_calls.specs.declared.call.Call.{Call}
 use Rattle.py_calls.specs.declared.reply.Reply.{Reply}
-use Rattle.py_mode.specs.declared.plan.PlanKind.{PlanKind}
-use Rattle.py_mode.specs.declared.plan.PlanKind.TheVariants as kind
-use Rattle.py_mode.specs.declared.plan.TextPlan.{TextPlan}
-use Rattle.py_mode.specs.declared.mode.FileMode.{FileMode}
+use Rattle.py_calls.specs.declared.plan.PlanKind.{PlanKind}
+use Rattle.py_calls.specs.declared.plan.PlanKind.TheVariants as kind
+use Rattle.py_calls.specs.declared.plan.TextPlan.{TextPlan}
+use Rattle.py_calls.specs.declared.mode.FileMode.{FileMode}
 use Rattle.py_stream.specs.declared.access.Access.TheVariants as access
-use Rattle.py_mode.specs.declared.open_args.OpenArgs.{OpenArgs}
-use Rattle.py_mode.specs.declared.plan.OpenPlan.{OpenPlan}
-use Rattle.py_mode.specs.Mode.{letter_of}
-use Rattle.py_mode.specs.Plan.{built_in_plan}
+use Rattle.py_calls.specs.declared.open_args.OpenArgs.{OpenArgs}
+use Rattle.py_calls.specs.declared.plan.OpenPlan.{OpenPlan}
+use Rattle.py_calls.specs.Mode.{letter_of}
+use Rattle.py_calls.specs.Plan.{built_in_plan}
 use Rattle.py_open.specs.Session.{SessionFile, OfText, SessionView, TextSession, BinarySession, file_seen, raw_of, life_of, bytes_in}
 use Rattle.py_open.specs.Opening.{access_of, OpensBy}
 use Rattle.py_open.specs.Run.{IsRun, IsSmooth, NoneLacksMemory, RunsCalls, AllSettle, all_said}

@@ -8,16 +8,16 @@ use Rattle.py_plain_text.specs.TextFile.{TextFile}
 use Rattle.py_raw.specs.RawStream.{Raw}
 use Rattle.py_raw.proofs.Telling.{tells_its_bytes}
 use Rattle.py_raw.specs.RawMode.{raw_mode_text}
-use Rattle.py_source_sink.specs.Sink.{SinkView}
+use Rattle.py_raw.specs.Sink.{SinkView}
 use Rattle.py_raw.specs.Opener.{OpenerView, HoldsTheSame, OthersHoldTheSame, misses, opened_bytes}
 use Rattle.py_stream.specs.Stream.{Stream}
 use Rattle.py_stream.specs.Opening.{Lacking, Untouched, Opens}
-use Rattle.py_mode.specs.declared.plan.PlanKind.{PlanKind}
-use Rattle.py_mode.specs.declared.plan.PlanKind.TheVariants as kind
-use Rattle.py_mode.specs.declared.mode.FileMode.{FileMode}
-use Rattle.py_mode.specs.declared.mode.FileMode.TheVariants.{Read, Write, Exclusive, Append}
-use Rattle.py_mode.specs.declared.plan.OpenPlan.{OpenPlan}
-use Rattle.py_mode.specs.Mode.{letter_of}
+use Rattle.py_calls.specs.declared.plan.PlanKind.{PlanKind}
+use Rattle.py_calls.specs.declared.plan.PlanKind.TheVariants as kind
+use Rattle.py_calls.specs.declared.mode.FileMode.{FileMode}
+use Rattle.py_calls.specs.declared.mode.FileMode.TheVariants.{Read, Write, Exclusive, Append}
+use Rattle.py_calls.specs.declared.plan.OpenPlan.{OpenPlan}
+use Rattle.py_calls.specs.Mode.{letter_of}
 use Rattle.py_stream.specs.declared.access.Access.{Access}
 use Rattle.py_stream.specs.declared.access.Access.TheVariants as access
 use Rattle.py_stream.specs.Access.{can_of, is_able}

@@ -4,7 +4,7 @@ use Rattle.py_raw.specs.declared.opener.OpenError.{OpenError}
 use Rattle.py_raw.specs.declared.opener.OpenError.TheVariants as open_error
 use Rattle.py_raw.specs.RawStream.{Raw}
 use Rattle.py_raw.proofs.Telling.{tells_still}
-use Rattle.py_source_sink.specs.Sink.{SinkView}
+use Rattle.py_raw.specs.Sink.{SinkView}
 use Rattle.py_raw.specs.Opener.{OpenerView, OpenKeeps, Opens, DoneKeeps, DoneOutcome, PutsAway}
 use Rattle.py_open.specs.Opening.{access_of}
 use Rattle.py_program.specs.declared.status.Status.{Status}

@@ -3,7 +3,7 @@ use Rattle.std.proofs.Common.{◌≡◌, ℕ, inl, inr, List, Result, Ok, Err, M
 use Rattle.py_flat.specs.declared.fault.IoFault.{IoFault}
 use Rattle.py_flat.specs.declared.fault.IoFault.TheVariants as fault
 use Rattle.py_raw.specs.RawStream.{Raw}
-use Rattle.py_source_sink.specs.Sink.{SinkView}
+use Rattle.py_raw.specs.Sink.{SinkView}
 use Rattle.py_calls.specs.declared.reply.Reply.{Reply}
 use Rattle.py_open.specs.Session.{SessionView, raw_of}
 use Rattle.py_open.specs.Run.{RefusesOpening, RunsCalls}

@@ -1,7 +1,7 @@
 -- What comes of printing a text of the program's own.
 use Rattle.std.proofs.Common.{◌≡◌, ◌≢◌, ℕ, inr, List, Some, Result, Ok, Err, MatchResult, refl, sym, subst}
-use Rattle.py_source_sink.specs.Source.{SourceView}
-use Rattle.py_source_sink.specs.Sink.{SinkView, SinkKeeps}
+use Rattle.py_raw.specs.Source.{SourceView}
+use Rattle.py_raw.specs.Sink.{SinkView, SinkKeeps}
 use Rattle.py_raw.specs.Opener.{OpenerView}
 use Rattle.py_script.specs.CommandWords.{Command, command_of}
 use Rattle.py_program.specs.declared.status.Status.{Status}

@@ -1,12 +1,12 @@
 -- What holds of a plan that is accepted, and of one that refuses.
 use Rattle.std.proofs.Common.{◌≡◌, ℕ, inl, List, Result, Ok, Err, MatchResult, refl, sym, ◌∙◌, subst}
 use Rattle.py_flat.specs.declared.fault.IoFault.{IoFault}
-use Rattle.py_source_sink.specs.Sink.{SinkView}
+use Rattle.py_raw.specs.Sink.{SinkView}
 use Rattle.py_raw.specs.Opener.{OpenerView}
 use Rattle.py_calls.specs.declared.call.Call.{Call}
-use Rattle.py_mode.specs.declared.open_args.OpenArgs.{OpenArgs}
-use Rattle.py_mode.specs.declared.plan.OpenPlan.{OpenPlan}
-use Rattle.py_mode.specs.Plan.{built_in_plan}
+use Rattle.py_calls.specs.declared.open_args.OpenArgs.{OpenArgs}
+use Rattle.py_calls.specs.declared.plan.OpenPlan.{OpenPlan}
+use Rattle.py_calls.specs.Plan.{built_in_plan}
 use Rattle.py_script.specs.Faults.{refused_line}
 use Rattle.py_program.specs.declared.status.Status.{Status}
 use Rattle.py_program.specs.declared.status.Status.TheVariants as status

@@ -3,7 +3,7 @@ use Rattle.std.proofs.Common.{◌≡◌, ℕ, ◌+◌, ◌≤◌, ◌<◌, IsTru
 use Rattle.std.proofs.lemmas.List.{take-append-drop, take_more}
 use Rattle.py_flat.specs.Causes.{Rose}
 use Rattle.py_flat.specs.BinaryStep.{IsFrontOf}
-use Rattle.py_source_sink.specs.Sink.{SinkView, SinkKeeps, SinkFails, NoSinkFault}
+use Rattle.py_raw.specs.Sink.{SinkView, SinkKeeps, SinkFails, NoSinkFault}
 use Rattle.py_calls.specs.declared.reply.Reply.{Reply}
 use Rattle.py_script.specs.ReplyLine.{reply_line, reply_lines}
 use Rattle.py_program.specs.declared.status.Status.{Status}

@@ -1,11 +1,11 @@
 -- A run in which nothing went wrong does what the model says.
 use Rattle.std.proofs.Common.{◌≡◌, ◌≢◌, ℕ, ◌⊎◌, inl, inr, ◌≤◌, true, false, IsTrue, List, length, Option, Some, None, Result, Ok, IsErr, refl, sym, ◌∙◌, subst, arith}
 use Rattle.py_flat.specs.declared.fault.IoFault.{IoFault}
-use Rattle.py_source_sink.specs.Source.{SourceView}
+use Rattle.py_raw.specs.Source.{SourceView}
 use Rattle.py_calls.specs.declared.call.Call.{Call}
-use Rattle.py_mode.specs.declared.open_args.OpenArgs.{OpenArgs}
-use Rattle.py_mode.specs.declared.plan.OpenPlan.{OpenPlan}
-use Rattle.py_mode.specs.Plan.{built_in_plan}
+use Rattle.py_calls.specs.declared.open_args.OpenArgs.{OpenArgs}
+use Rattle.py_calls.specs.declared.plan.OpenPlan.{OpenPlan}
+use Rattle.py_calls.specs.Plan.{built_in_plan}
 use Rattle.py_open.proofs.Runs.{smooth_settles}
 use Rattle.py_script.specs.CommandWords.{Command, Run, command_of}
 use Rattle.py_script.specs.Script.{script_calls}

@@ -3,15 +3,15 @@ use Rattle.std.specs.Prelude.{◌≡◌, ◌≢◌, ◌≤◌, ℕ, ◌⊎◌, t
 use Rattle.py_flat.specs.Causes.{rose, Rose, RoseBy}
 use Rattle.py_raw.specs.RawStream.{Raw, tells as raw_tells}
 use Rattle.py_raw.specs.Opener.{OpenerView, NoOpenerFault, misses, IsOpened, opened_bytes, HoldsTheSame, OthersHoldTheSame}
-use Rattle.py_source_sink.specs.Source.{SourceView, NoSourceFault}
-use Rattle.py_source_sink.specs.Sink.{NoSinkFault}
+use Rattle.py_raw.specs.Source.{SourceView, NoSourceFault}
+use Rattle.py_raw.specs.Sink.{NoSinkFault}
 use Rattle.py_stream.specs.declared.access.Access.TheVariants as access
 use Rattle.py_calls.specs.declared.call.Call.{Call}
 use Rattle.py_calls.specs.declared.reply.Reply.{Reply}
-use Rattle.py_mode.specs.declared.plan.TextPlan.{TextPlan}
-use Rattle.py_mode.specs.declared.open_args.OpenArgs.{OpenArgs}
-use Rattle.py_mode.specs.declared.plan.OpenPlan.{OpenPlan}
-use Rattle.py_mode.specs.Plan.{built_in_plan}
+use Rattle.py_calls.specs.declared.plan.TextPlan.{TextPlan}
+use Rattle.py_calls.specs.declared.open_args.OpenArgs.{OpenArgs}
+use Rattle.py_calls.specs.declared.plan.OpenPlan.{OpenPlan}
+use Rattle.py_calls.specs.Plan.{built_in_plan}
 use Rattle.py_open.specs.Session.{SessionFile, SessionView, raw_of, bytes_in}
 use Rattle.py_open.specs.Opening.{access_of}
 use Rattle.py_open.specs.Run.{NoneLacksMemory, RunsCalls, AllSettle, all_said}

@@ -3,8 +3,8 @@ use Rattle.std.specs.Prelude.{◌≡◌, ℕ, ◌<◌, ◌≤◌, ◌⊎◌, IsT
 use Rattle.std.specs.declared.alloc.Global.{Global}
 use Rattle.py_flat.specs.Causes.{Rose}
 use Rattle.py_flat.specs.BinaryStep.{IsFrontOf}
-use Rattle.py_source_sink.specs.Source.{SourceView}
-use Rattle.py_source_sink.specs.Sink.{SinkView}
+use Rattle.py_raw.specs.Source.{SourceView}
+use Rattle.py_raw.specs.Sink.{SinkView}
 use Rattle.py_calls.specs.declared.call.Call.{Call}
 use Rattle.py_script.specs.Script.{script_calls}
 use Rattle.py_program.specs.declared.status.Status.{Status}

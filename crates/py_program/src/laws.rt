@@ -1,11 +1,11 @@
 //! Laws of what the program's contract speaks of. No function here does anything; what it ensures is a law.
 ghost use Rattle.std.specs.Prelude.{◌≡◌, ℕ, IsTrue, List, Ok, Some};
-ghost use Rattle.py_source_sink.specs.Source.{SourceView};
-ghost use Rattle.py_mode.specs.declared.open_args.OpenArgs.{OpenArgs};
-ghost use Rattle.py_mode.specs.declared.plan.OpenPlan.{OpenPlan};
-ghost use Rattle.py_mode.specs.declared.plan.PlanKind.TheVariants.{Text};
-ghost use Rattle.py_mode.specs.declared.plan.TextPlan.{TextPlan};
-ghost use Rattle.py_mode.specs.Plan.{built_in_plan};
+ghost use Rattle.py_raw.specs.Source.{SourceView};
+ghost use Rattle.py_calls.specs.declared.open_args.OpenArgs.{OpenArgs};
+ghost use Rattle.py_calls.specs.declared.plan.OpenPlan.{OpenPlan};
+ghost use Rattle.py_calls.specs.declared.plan.PlanKind.TheVariants.{Text};
+ghost use Rattle.py_calls.specs.declared.plan.TextPlan.{TextPlan};
+ghost use Rattle.py_calls.specs.Plan.{built_in_plan};
 ghost use Rattle.py_script.specs.CommandWords.{Run, command_of};
 ghost use Rattle.py_program.specs.Outcome.{Outside, Ends};
 ghost use Rattle.py_program.specs.Meaning.{RawsAreReady, PrintsSettled, PrintsExactly};

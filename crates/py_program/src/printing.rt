@@ -1,6 +1,6 @@
 //! Printing replies and refusals, a line each.
 ghost use Rattle.std.specs.Prelude.{◌≡◌, ◌≢◌, Err};
-ghost use Rattle.py_source_sink.specs.Sink.{SinkKeeps, NoSinkFault};
+ghost use Rattle.py_raw.specs.Sink.{SinkKeeps, NoSinkFault};
 ghost use Rattle.py_script.specs.ReplyLine.{reply_line, reply_lines};
 ghost use Rattle.py_script.specs.Faults.{refused_line};
 ghost use Rattle.py_program.specs.Outside.{PrintOutcome};

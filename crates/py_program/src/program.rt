@@ -1,11 +1,11 @@
 //! The program: from its words to the lines that it prints and the status that it ends with.
 ghost use Rattle.std.specs.Prelude.{◌≡◌, ◌≢◌, ◌⊎◌, Ok, Err, IfOk, IfErr, MatchResult};
-ghost use Rattle.py_source_sink.specs.Source.{NoSourceFault};
-ghost use Rattle.py_source_sink.specs.Sink.{SinkKeeps, NoSinkFault};
+ghost use Rattle.py_raw.specs.Source.{NoSourceFault};
+ghost use Rattle.py_raw.specs.Sink.{SinkKeeps, NoSinkFault};
 ghost use Rattle.py_raw.specs.Opener.{IsOpened, NoOpenerFault};
 ghost use Rattle.py_stream.specs.Opening.{StandsAtStart};
 ghost use Rattle.py_flat.specs.declared.fault.IoFault.TheVariants as fault;
-ghost use Rattle.py_mode.specs.Plan.{built_in_plan, IsPlanned};
+ghost use Rattle.py_calls.specs.Plan.{built_in_plan, IsPlanned};
 ghost use Rattle.py_program.specs.Outside.{texts};
 ghost use Rattle.py_open.specs.Paths.{raw_mode};
 ghost use Rattle.py_program.specs.Outcome.{asked_by, asked_in, outside, RawOutcome, PlannedOutcome, LacksPlan, Outcome, Ends, after_done};

@@ -1,6 +1,6 @@
 //! Reading the script to its end.
 ghost use Rattle.std.specs.Prelude.{◌≡◌, ◌≢◌, ◌≤◌, Err};
-ghost use Rattle.py_source_sink.specs.Source.{SourceKeeps, NoSourceFault};
+ghost use Rattle.py_raw.specs.Source.{SourceKeeps, NoSourceFault};
 ghost use Rattle.py_program.specs.Outside.{ScriptOutcome, ReadOutcome};
 
 use crate::status::Status;

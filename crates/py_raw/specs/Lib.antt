@@ -1,3 +1,10 @@
+pub mod Again
+pub mod Source
+pub mod Sink
+pub mod MemSource
+pub mod MemSink
+pub mod ReadSource
+pub mod WriteSink
 pub mod Flags
 pub mod Reads
 pub mod RawStream

@@ -4,28 +4,41 @@
 //! rise then. What an outside doesn't tell (a real file tells no content) is claimed of none. The streams themselves are elsewhere:
 //! `py_raw_memory` has those in memory, `py_raw_files` those of the system.
 //!
-//! The sources and sinks of `py_source_sink` are re-exported here.
+//! The sources and sinks of `py_raw` are re-exported here.
 #![tactic(auto)]
 
+mod again;
 mod conversions;
 mod laying;
+mod mem_sink;
+mod mem_source;
 mod mode_letters;
 mod opener;
 mod raw_error;
 mod raw_flags;
 mod raw_mode;
 mod raw_stream;
+mod read_source;
 mod reads;
+mod sink;
+mod source;
+mod write_sink;
 mod zeros;
 
+pub use again::flush_again;
 pub use laying::{fill_front, lay_on};
+pub use mem_sink::MemSink;
+pub use mem_source::MemSource;
 pub use mode_letters::compute_mode;
 pub use opener::{OpenError, Opener};
 pub use py_flat::{Chars, Data, IoFault, Life, Lines, ModeError, ParseModeError};
-pub use py_source_sink::{Failed, MemSink, MemSource, ReadSource, Sink, Source, WriteSink};
 pub use raw_error::RawError;
 pub use raw_flags::RawFlags;
 pub use raw_mode::{file_letter, is_raw_mode, misses, mode_flags, mode_reads, mode_writes};
 pub use raw_stream::{GREATEST_PLACE, RawStream};
+pub use read_source::ReadSource;
 pub use reads::Reads;
+pub use sink::Sink;
+pub use source::{Failed, Source};
+pub use write_sink::WriteSink;
 pub use zeros::lengthen;

@@ -8,8 +8,7 @@ ghost use Rattle.py_raw_files.specs.WriteRaw.{shown_write_raw};
 
 use crate::Counts;
 use crate::handle::{Handle, asks_to_wait};
-use py_raw::{RawError, RawStream};
-use py_source_sink::flush_again;
+use py_raw::{RawError, RawStream, flush_again};
 use std::io;
 use std::io::{ErrorKind, Write};
 

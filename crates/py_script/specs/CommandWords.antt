@@ -1,7 +1,7 @@
 -- What the words of the command line ask for: this project's own.
 use Rattle.std.specs.Prelude.{ℕ, List, [], ◌∷◌, Option, Some, None, option_map, codes, if◌then◌else◌}
 use Rattle.std.specs.Str.{bytes_eq}
-use Rattle.py_mode.specs.declared.open_args.OpenArgs.{OpenArgs}
+use Rattle.py_calls.specs.declared.open_args.OpenArgs.{OpenArgs}
 use Rattle.py_script.specs.declared.command.Command.{Command as Seen}
 use Rattle.py_script.specs.declared.command.Command.TheVariants as seen
 use Rattle.py_script.specs.Options.{arguments_of}

@@ -2,7 +2,7 @@
 use Rattle.std.specs.Prelude.{ℕ, ◌==◌, nat_lt, negsuc, Bool, List, [], ◌∷◌, length, chars, Option, Some, None, is_none, option_map, option_and_then, unwrap_or, codes, if◌then◌else◌}
 use Rattle.std.specs.List.{position_or_len, before_first, after_first}
 use Rattle.std.specs.Str.{bytes_eq}
-use Rattle.py_mode.specs.declared.open_args.OpenArgs.{OpenArgs}
+use Rattle.py_calls.specs.declared.open_args.OpenArgs.{OpenArgs}
 use Rattle.py_script.specs.declared.options.WordOption.{WordOption}
 use Rattle.py_script.specs.declared.options.WordOption.TheVariants.{Buffering, Encoding, Errors, Newline, ChunkSize}
 use Rattle.py_script.specs.declared.options.Given.{Given}

@@ -2,7 +2,7 @@ ghost use Rattle.std.specs.Prelude.{◌≡◌, map, string_bytes, IfOk, option_m
 ghost use Rattle.py_script.specs.CommandWords.{command_shown, lone_command, command_of};
 
 use crate::options::parse_options;
-use py_mode::OpenArgs;
+use py_calls::OpenArgs;
 use std::alloc::{AllocError, Global};
 
 /// What the words of a command line ask for.

@@ -3,8 +3,8 @@ ghost use Rattle.py_script.specs.Options.{named_option, option_of, given_with, a
 
 use crate::decimal::{parse_decimal, parse_integer};
 use crate::hex_words::hex_text;
+use py_calls::OpenArgs;
 use py_flat::Chars;
-use py_mode::OpenArgs;
 use std::alloc::{AllocError, Global};
 
 /// An option of the command line.

@@ -1,9 +1,9 @@
 //! What the errors of a stream say.
 use anyhow::Result;
+use py_adapters::StdStream;
 use py_buffered::{BufferedReader, BufferedWriter};
 use py_raw::RawFlags;
 use py_raw_memory::{Cut, MemRaw};
-use py_std::StdStream;
 use std::alloc::Global;
 use std::io;
 use std::io::{Read, Write};

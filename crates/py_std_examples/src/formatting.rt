@@ -1,11 +1,11 @@
 //! Text that is written by std's `fmt`.
 use anyhow::Result;
+use py_adapters::FmtWriter;
 use py_codec::{Encoding, Handler};
 use py_flat::IoFault;
 use py_memio::BytesIO;
 use py_text::{Coder, TextSettings};
 use py_textio::TextIOWrapper;
-use py_write_text::FmtWriter;
 use std::alloc::Global;
 use std::fmt::Write;
 

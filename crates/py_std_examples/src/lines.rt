@@ -1,14 +1,13 @@
 //! Lines, one after the other.
 use anyhow::Result;
 use bstr::io::BufReadExt;
+use py_adapters::{LineEnds, LineSource, LineValue, Newlines, SourceLines, StdStream};
 use py_buffered::{BufferedRandom, BufferedReader};
 use py_codec::{Encoding, Handler};
 use py_flat::IoFault;
-use py_line_source::{LineEnds, LineSource, LineValue, Newlines, SourceLines};
 use py_memio::BytesIO;
 use py_raw::RawFlags;
 use py_raw_memory::{Cut, MemRaw};
-use py_std::StdStream;
 use py_text::{Coder, TextSettings};
 use py_textio::TextIOWrapper;
 use std::alloc::Global;

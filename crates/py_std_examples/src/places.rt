@@ -1,10 +1,10 @@
 //! Bytes in memory, by std's calls.
 use anyhow::Result;
+use py_adapters::StdStream;
 use py_buffered::BufferedReader;
 use py_memio::BytesIO;
 use py_raw::RawFlags;
 use py_raw_memory::MemRaw;
-use py_std::StdStream;
 use std::alloc::Global;
 use std::io;
 use std::io::{BufRead, Read, Seek, SeekFrom, Write};

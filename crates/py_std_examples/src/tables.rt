@@ -2,11 +2,11 @@
 use crate::waits::read_all;
 use anyhow::{Result, anyhow};
 use csv::{ByteRecord, Error, ReaderBuilder, WriterBuilder};
+use py_adapters::StdStream;
 use py_buffered::{BufferedReader, BufferedWriter};
 use py_memio::BytesIO;
 use py_raw::RawFlags;
 use py_raw_memory::{Cut, MemRaw};
-use py_std::StdStream;
 use std::alloc::Global;
 use std::io;
 use std::io::{Read, Write};

@@ -1,9 +1,9 @@
 //! Streams over raw streams that would have blocked.
 use anyhow::Result;
+use py_adapters::StdStream;
 use py_buffered::{BufferedReader, BufferedWriter};
 use py_raw::RawFlags;
 use py_raw_memory::{Cut, MemRaw};
-use py_std::StdStream;
 use std::alloc::Global;
 use std::io;
 use std::io::{ErrorKind, Read, Write};

@@ -1,2 +1,10 @@
+pub mod Spelled
+pub mod EachWritten
+pub mod Own
+pub mod WrittenCuts
+pub mod Ends
+pub mod Lines
+pub mod Lengths
+pub mod Refused
 pub mod Copying
 pub mod Joining

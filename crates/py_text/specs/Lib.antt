@@ -1,3 +1,6 @@
+pub mod Written
+pub mod EachWritten
+pub mod WrittenCuts
 pub mod Sizes
 pub mod Settings
 pub mod Coders

@@ -10,9 +10,14 @@ mod cutting;
 mod examples;
 mod finding;
 mod laws;
+mod line_ends;
+mod measuring;
 mod newline_decoder;
+mod own_bytes;
+mod pushing;
 mod reading;
 mod reconfigure;
+mod sizes;
 mod text_settings;
 mod utf8_size;
 
@@ -23,7 +28,10 @@ pub use examples::{
 };
 pub use finding::{find_coder, is_of_stream};
 pub use laws::newline_pieces_read_as_one;
+pub use line_ends::has_line_end;
+pub use measuring::{WrittenSize, written_size};
 pub use newline_decoder::IncrementalNewlineDecoder;
+pub use pushing::push_written_text;
 pub use py_codec::IoFault;
 pub use py_plain::{Encoding, Handler, Newlines};
 pub use py_registry::{CodecsRegistry, SearchFunction};

@@ -1,8 +1,8 @@
 //! Lines of whatever is read line by line.
 use crate::making::{STRICT, text_of};
 use anyhow::{Result, anyhow};
+use py_adapters::{IoFault, LineSource, LineValue, file_readline};
 use py_buffered::BufferedReader;
-use py_line_source::{IoFault, LineSource, LineValue, file_readline};
 use py_raw::RawFlags;
 use py_raw_memory::MemRaw;
 use std::alloc::Global;

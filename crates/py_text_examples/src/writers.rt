@@ -2,12 +2,12 @@
 use crate::making::STRICT;
 use crate::writing::bytes_of;
 use anyhow::Result;
+use py_adapters::{IoWriter, PyWriter, Write};
 use py_flat::IoFault;
 use py_memio::BytesIO;
-use py_source_sink::{Failed, MemSink};
+use py_raw::{Failed, MemSink};
 use py_text::TextSettings;
 use py_textio::TextIOWrapper;
-use py_write_text::{IoWriter, PyWriter, Write};
 use std::alloc::Global;
 
 /// Writes a greeting to whatever takes text.

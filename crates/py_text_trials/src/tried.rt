@@ -2,10 +2,10 @@
 use crate::apart::{Apart, Held, Under, take_text_apart};
 use crate::asking::Asking;
 use py_flat::{Chars, IoFault};
+use py_open::TextSession;
 use py_raw::RawStream;
 use py_raw_memory::MemRaw;
 use py_stream::Detached;
-use py_text_session::TextSession;
 use py_textio::TextIOWrapper;
 use std::alloc::{AllocError, Global};
 

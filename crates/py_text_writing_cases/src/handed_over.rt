@@ -1,7 +1,7 @@
 //! Texts and sessions that are handed over by a detach.
 use py_flat::IoFault;
+use py_open::{TextSession, TextUnwritten};
 use py_raw_memory::MemRaw;
-use py_text_session::{TextSession, TextUnwritten};
 use py_text_trials::{Apart, Held, Tried, Under, take_parts_apart};
 use py_textio::TextIOWrapper;
 use std::alloc::Global;

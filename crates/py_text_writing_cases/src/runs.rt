@@ -1,7 +1,7 @@
 //! What is varied of a text.
+use py_open::Access;
 use py_plain::Handler;
 use py_raw_memory::Cut;
-use py_text_session::Access;
 use py_text_trials::{Asking, HANDLERS};
 
 /// What is varied besides the settings.

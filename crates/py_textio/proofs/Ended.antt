@@ -12,8 +12,8 @@ use Rattle.py_plain.specs.Escapes.{each_spelled}
 use Rattle.py_plain_text.specs.TextFile.{TextSettings}
 use Rattle.py_plain_text.specs.TextWriting.{written_as, written_bytes, written_refusal}
 use Rattle.py_read_text.specs.Owing.{has_line_end}
-use Rattle.py_written_text.specs.EachWritten.{character_bytes}
-use Rattle.py_written_text.proofs.EachWritten.{written-each}
+use Rattle.py_text.specs.EachWritten.{character_bytes}
+use Rattle.py_text.proofs.EachWritten.{written-each}
 
 -- an LF or a CR
 abbrev ends : ℕ → Bool

@@ -1,7 +1,7 @@
 //! Text over any buffered stream: characters and lines that are decoded as they are asked for, and texts that are written.
 //!
 //! `TextIOWrapper` is seen as the text over what its buffer is seen as, and each of its calls has the one clause `Answers`, its `detach` too.
-//! The part that reads is `py_read_text`, what a text is written as `py_written_text`.
+//! The part that reads is `py_read_text`, what a text is written as `py_text`.
 #![tactic(auto)]
 
 mod attached_text;

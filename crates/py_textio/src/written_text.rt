@@ -25,8 +25,10 @@ use py_raw::GREATEST_PLACE;
 use py_read_text::{Answer, ReadText, is_raw_fault, is_wait};
 use py_stream::BufferedStream;
 use py_telling::Told;
-use py_text::{Reconfigure, TextSettings, is_of_stream};
-use py_written_text::{WrittenSize, has_line_end, push_written_text, written_size};
+use py_text::{
+    Reconfigure, TextSettings, WrittenSize, has_line_end, is_of_stream, push_written_text,
+    written_size,
+};
 use std::alloc::Global;
 use std::marker::Model;
 

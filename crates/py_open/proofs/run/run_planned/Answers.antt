@@ -7,7 +7,7 @@ use Rattle.py_flat.specs.Refusals.{or_else, refused_if}
 use Rattle.py_raw.specs.RawStream.{Raw}
 use Rattle.py_stream.specs.Opening.{holds_none, RefusesRaw}
 use Rattle.py_stream.specs.Access.{can_of}
-use Rattle.py_mode.specs.Plan.{buffer_of}
+use Rattle.py_calls.specs.Plan.{buffer_of}
 use Rattle.py_calls.specs.declared.call.Call.{Call}
 use Rattle.py_calls.specs.declared.reply.Reply.{Reply}
 use Rattle.py_open.specs.Opening.{access_of, suits_plan}

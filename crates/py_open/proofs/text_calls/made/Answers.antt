@@ -7,7 +7,7 @@ use Rattle.py_plain_text.specs.TextCalls.{SeekText}
 use Rattle.py_read_text.specs.Answers.{Answers, cookie_reply}
 use Rattle.py_calls.specs.declared.reply.Reply.{Reply}
 use Rattle.py_calls.specs.Calls.{said}
-use Rattle.py_text_session.proofs.Detaching.{answers_call}
+use Rattle.py_open.proofs.Detaching.{answers_call}
 use Rattle.py_open.specs.Session.{SaysOrStarves}
 use Rattle.py_open.proofs.Names.{encoding_spelled, handler_spelled, other_kind}
 use Rattle.py_open.proofs.text_calls.made.Goals as goal

@@ -1,7 +1,7 @@
 use Rattle.std.proofs.Common.{List, ℕ, take, subst, sym, arith}
 use Rattle.std.proofs.lemmas.Result.{err_from_is_err_and}
 use Rattle.py_calls.specs.declared.reply.Reply.{Reply}
-use Rattle.py_source_sink.specs.Sink.{SinkView}
+use Rattle.py_raw.specs.Sink.{SinkView}
 use Rattle.py_script.specs.ReplyLine.{reply_line, reply_lines}
 use Rattle.py_program.specs.Outside.{Prints}
 use Rattle.py_program.proofs.Printed.{prints_more, stops_behind, sink_keeps_more, no_fault_more, lines_more, lines_front}

@@ -1,5 +1,5 @@
 use Rattle.std.proofs.Common.{take}
-use Rattle.py_source_sink.specs.Sink.{SinkKeeps, NoSinkFault}
+use Rattle.py_raw.specs.Sink.{SinkKeeps, NoSinkFault}
 use Rattle.py_script.specs.ReplyLine.{reply_lines}
 use Rattle.py_program.specs.Outside.{Prints}
 use Rattle.py_program.proofs.printing.print_replies.Given as goal

@@ -1,7 +1,7 @@
 use Rattle.std.proofs.Common.{◌≡◌, ◌≢◌, ◌⊎◌, IsTrue, None, subst, ℕ, rules, arith}
 use Rattle.std.proofs.lemmas.Grind.{common_steps}
 use Rattle.py_flat.specs.Causes.{Rose}
-use Rattle.py_source_sink.specs.Source.{SourceView}
+use Rattle.py_raw.specs.Source.{SourceView}
 use Rattle.py_program.specs.Outside.{texts, IsMalformed}
 use Rattle.py_program.specs.Outcome.{Outside, asked_in, Ends}
 use Rattle.py_program.specs.Meaning.{IsRefusedPlan, MayNotMove, NothingFails}

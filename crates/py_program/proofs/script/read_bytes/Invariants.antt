@@ -1,5 +1,5 @@
 use Rattle.std.proofs.Common.{◌≡◌, ◌≤◌, ◌++◌, ◌-◌, length, IsTrue}
-use Rattle.py_source_sink.specs.Source.{SourceKeeps, NoSourceFault}
+use Rattle.py_raw.specs.Source.{SourceKeeps, NoSourceFault}
 use Rattle.py_program.specs.Outside.{script_limit}
 use Rattle.py_program.proofs.script.read_bytes.Given as goal
 

@@ -1,6 +1,6 @@
 use Rattle.std.proofs.Common.{List, ℕ, Option, Some, sym, ap, ◌∙◌}
 use Rattle.py_plain.specs.NewlineArgument.{rule_of}
-use Rattle.py_mode.proofs.Planning.{rule_spelled}
+use Rattle.py_calls.proofs.Planning.{rule_spelled}
 use Rattle.py_script.specs.Settings.{text_rule}
 use Rattle.py_script.proofs.settings.hex_rule.Goals as goal
 

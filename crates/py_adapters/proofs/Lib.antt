@@ -1,0 +1,5 @@
+mod Chopping
+mod Told
+mod Known
+mod Loans
+mod Rests

@@ -1,7 +1,0 @@
-pub mod Again
-pub mod Source
-pub mod Sink
-pub mod MemSource
-pub mod MemSink
-pub mod ReadSource
-pub mod WriteSink

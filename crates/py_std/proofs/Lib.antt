@@ -1,4 +1,0 @@
-mod Told
-mod Known
-mod Loans
-mod Rests

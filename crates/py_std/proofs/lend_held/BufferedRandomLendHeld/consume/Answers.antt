@@ -1,5 +1,0 @@
-use Rattle.py_std.proofs.Loans.{pass_drops}
-use Rattle.py_std.proofs.lend_held.BufferedRandomLendHeld.consume.Goals as goal
-
-pub returns-clause-drops : goal.returns-clause-drops
-returns-clause-drops g c = pass_drops c.args.self.now.stream c.args.amount c.consume.result c.consume.new.self.stream c.consume.ensures.passes
