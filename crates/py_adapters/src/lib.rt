@@ -1,4 +1,7 @@
-//! Streams as std's readers, writers and seekers: what takes an `std::io::Read`, `BufRead`, `Write` or `Seek` takes a `StdStream` of one. The other
+//! Streams as others take them: as std's readers, writers and seekers, as whatever is read line by line (`LineSource`), and as whatever text is
+//! written to (`Write`), which strings and sinks are, too.
+//!
+//! What takes an `std::io::Read`, `BufRead`, `Write` or `Seek` takes a `StdStream` of one. The other
 //! way, a raw stream over whatever is a reader or a writer of std's, is `ReadRaw` and `WriteRaw` of `py_raw_files`.
 #![tactic(auto)]
 

@@ -1,4 +1,5 @@
 //! Buffered streams over raw ones: one buffer, filled in one piece and given out bit by bit, or filled bit by bit and passed on, or both.
+//! A reader and a writer over two raw streams are one stream, too (`BufferedRWPair`): the two ends of a pipe, a socket's two halves.
 #![tactic(auto)]
 
 mod buffered_over;

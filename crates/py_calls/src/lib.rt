@@ -1,6 +1,10 @@
-//! The calls of a session and its replies, and what they mean in the models of a text and of a binary stream.
+//! What is asked for: the calls of a session and its replies, and what they mean in the models of a text and of a binary stream; and
+//! the mode and the arguments of an opening, and the plan that they make.
 //!
-//! `Session::call` of the crate above says which of them a session has, and which replies come of which call.
+//! `Session::call` of `py_open` says which of the calls a session has, and which replies come of which call. `plan_open` decides before any
+//! raw stream is asked: it says which mode, and whether a text, a stream of bytes through a buffer or the bare raw is opened, of a text what
+//! it decodes and encodes by, as a registry finds it by name, and its settings; or why the opening is refused. `Mode` is read from its text
+//! by `parse`.
 #![tactic(auto)]
 
 mod call;

@@ -2,6 +2,9 @@
 //!
 //! `io_open` opens a path by a mode, over the raw stream that an opener opens. `run_session` opens a session over a raw stream, a text or a
 //! stream of bytes, and makes a list of calls; its replies are a run of the model from the opening's flat file to the session's own.
+//!
+//! `TextSession` is the session of a text: a text that is read and written over a raw stream. It is seen as a text over what its buffer is
+//! seen as, and each of its calls has the one clause `Answers` of texts (`py_read_text`). The session of bytes is `py_binary`'s.
 #![tactic(auto)]
 
 mod laws;

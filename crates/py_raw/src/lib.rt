@@ -1,10 +1,12 @@
-//! Raw streams, and what opens them: the traits, and what an opener's mode says.
+//! Raw streams, and what opens them: the traits, and what an opener's mode says. And where a program reads its script, and where it prints its
+//! replies: sources and sinks.
 //!
 //! Each is a trait whose clauses say all that the layers above may rest on: what moves, when it may fail or block, and which counts
 //! rise then. What an outside doesn't tell (a real file tells no content) is claimed of none. The streams themselves are elsewhere:
 //! `py_raw_memory` has those in memory, `py_raw_files` those of the system.
 //!
-//! The sources and sinks of `py_raw` are re-exported here.
+//! Of sources and sinks there is one in memory, which tells its bytes and fails where it is told to, and one over any reader or writer, as
+//! standard input and output, which tells none.
 #![tactic(auto)]
 
 mod again;

@@ -1,8 +1,11 @@
-//! Parts of a text stream that know no stream.
+//! Parts of a text stream that know no stream, and a text as the bytes that it is written as.
 //!
 //! Here are the newline rule over a text that comes in pieces, sizes of texts in bytes and characters, and the codec and
 //! the handler that a text stream has by their names in a registry, with its other settings. The functions of `laws` and
 //! `examples` do nothing: their contracts are a law of these definitions and what they come to in worked examples.
+//!
+//! Where nothing of a text is refused, each character of it has bytes of its own or those that a handler gives for it, and
+//! the text is written as these bytes, one after the other (`specs/EachWritten.antt`). So lengths add up, and a text may be cut anywhere.
 #![tactic(auto)]
 
 mod coder;
