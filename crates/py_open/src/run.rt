@@ -26,7 +26,9 @@ pub struct Run<R: RawStream> {
 ///
 /// The replies are a run of the model from the opening's flat file to the session's own: for every raw, told or not,
 /// each has its cause; where the raw tells, each is the model's, whatever pieces the raw moves and whatever the sizes of
-/// buffer and chunks are; and what a text told by a cookie is left again once it is sought by that (`a_text_goes_back_to_where_it_told`).
+/// buffer and chunks are. There a seek by a cookie that the text told answers that cookie, and what was left then is left again, if the text
+/// is live, doesn't append, has its bytes and settings as they were and no more bytes than a stream can have, and the seek neither waits nor
+/// fails, and has memory (`a_text_goes_back_to_where_it_told`).
 ///
 /// Refused, the raw is handed back with nothing read or written: by the plan (`plan_open`), which leaves the registry as it was; then as
 /// `run_planned` says, with the registry as the plan left it.

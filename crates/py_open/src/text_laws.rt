@@ -21,8 +21,9 @@ pub fn settled_only_blames_itself()
 
 /// No character is lost by any answer of a text, whole or short: what was left before is the answer and then what is left
 /// after it, up to the same refused range. An answer that isn't ready leaves the text as it was; so does a refusal that is no
-/// fault of the raw and no want of memory, but for a write or a seek that had to wait or couldn't be restored; and want of memory
-/// does of a text that can't write, but for a seek by a cookie that skips, which may leave it where that cookie's text begins.
+/// fault of the raw and no want of memory, of any call but a write or a seek. Of a refused write or seek that isn't said, since one
+/// that had to wait, and a seek that couldn't be restored, may leave another text. Want of memory leaves a text as it was that can't
+/// write, but for a seek by a cookie that skips, which may leave it where that cookie's text begins.
 pub fn a_wait_loses_nothing()
     ensures answered { (before : TextFile) (call : TextFileCall) (answer : List ℕ) (waited faulted : Bool) (after : TextFile) → TextFileStep before call (Text answer) waited faulted after → LosesNothing before answer after }
     ensures not_ready { (before : TextFile) (call : TextFileCall) (waited faulted : Bool) (after : TextFile) → TextFileStep before call NotReady waited faulted after → after ≡ before }

@@ -216,7 +216,7 @@ impl<R: RawStream> TextSession<R> {
         self.text.seek(alloc, cookie, whence)
     }
 
-    /// Asks its buffer for n bytes at once from here on. No answer hangs on it.
+    /// Asks its buffer for at most n bytes at once from here on. No answer hangs on it.
     ///
     /// `BadArgument` for 0.
     pub fn set_chunksize(&mut self, size: usize) -> Result<(), IoFault>

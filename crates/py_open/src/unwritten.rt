@@ -6,6 +6,6 @@ pub struct TextUnwritten {
     /// The bytes: those of the buffer and behind them the text's own.
     pub bytes: Vec<u8>,
     /// The place of the first of them, in bytes from the start of the stream; with none the byte of the text place: where the text was
-    /// opened, behind what was written last, or where a `read` of all came to the end. `None` where the raw can't seek.
+    /// opened or sought to, behind what was written last, or where a `read` of all came to the end. `None` where the raw can't seek.
     pub place: Option<u64>,
 }

@@ -91,7 +91,7 @@ impl<B: BufferedStream> AttachedText<B> {
         })
     }
 
-    /// Asks its buffer for n bytes at once from here on.
+    /// Asks its buffer for at most n bytes at once from here on.
     pub fn set_chunksize(&mut self, size: usize) -> Result<(), IoFault>
         ensures { Answers self.old (SetChunkSize size) (done_reply result) self.new }
     {

@@ -8,7 +8,7 @@ pub struct TextDetached<B> {
     /// The bytes that were taken from callers and that the buffer hasn't.
     pub unwritten: Vec<u8>,
     /// The byte where `unwritten` begins, from the start of the stream; with nothing unwritten that of the text place: where the text was
-    /// made, where what was written last ends, or where a `read` of all came to the end. Characters that were read since stand behind it.
-    /// `None` where the buffer can't seek.
+    /// made, where a `seek` put it (by a cookie that skips behind the bytes that it feeds), where what was written last ends, or where a
+    /// `read` of all came to the end. Bytes that were read since stand behind it. `None` where the buffer can't seek.
     pub place: Option<u64>,
 }

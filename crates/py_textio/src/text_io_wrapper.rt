@@ -33,8 +33,9 @@ use std::marker::Model;
 /// Each call first answers by the life, with all as it was and the buffer not called: `Failed` after a fault (but a `detach`), `Closed`
 /// after a `close` (which may be called again), `Detached` after a `detach`; then it is `Unsupported` where the buffer lacks what the call
 /// needs. Else, where the raw failed in the call, it is `RawFault`: the text is failed from then on; after `close` it is closed. `NoMemory`
-/// means out of memory: place and life stay, and the call may be made again; but of a text that is written it may be failed, where memory
-/// ran out while its buffer took or passed on what was written. A getter is never refused.
+/// means out of memory: place and life stay, and the call may be made again; but a `seek` by a cookie that skips may leave the text, clean,
+/// at the cookie's start, and a text that is written may be failed, where memory ran out while its buffer took or passed on what was
+/// written. A getter is never refused.
 #[derive(Debug, Drop)]
 pub struct TextIOWrapper<B: BufferedStream> {
     attached: Option<AttachedText<B>>,
@@ -123,7 +124,7 @@ impl<B: BufferedStream> TextIOWrapper<B> {
         }
     }
 
-    /// Asks its buffer for n bytes at once from here on. No answer hangs on it.
+    /// Asks its buffer for at most n bytes at once from here on. No answer hangs on it.
     ///
     /// `BadArgument` for 0.
     pub fn set_chunksize(&mut self, size: usize) -> Result<(), IoFault>
@@ -381,8 +382,9 @@ impl<B: BufferedStream> TextIOWrapper<B> {
 
     /// Hands the buffer back, in every life but detached, where it was handed back before, with the bytes that were written and that it
     /// hasn't, behind those that it owes itself; and, where it can seek, with the place where they begin: without any the byte of the text
-    /// place, where the text was made, or behind what was written last, or where a `read` of all came to the end; how many characters were
-    /// taken since isn't told. The buffer isn't moved: it stands behind the last chunk that was read. What was read and not taken is dropped.
+    /// place, where the text was made, where a `seek` put it (by a cookie that skips behind the bytes that it feeds), behind what was written
+    /// last, or where a `read` of all came to the end; how many characters were taken since isn't told. The buffer isn't moved: where bytes
+    /// were read since then, it stands behind the last of them. What was read and not taken is dropped.
     /// Bytes that the buffer hasn't come with room for as many more as the buffer holds. It takes no memory.
     pub fn into_parts(self) -> Option<TextDetached<B>>
         ensures parts { PartsOutcome B.shows self result }
