@@ -1,5 +1,5 @@
 -- What a chunk that came, or none, leaves of a text.
-use Rattle.std.proofs.Common.{◌≡◌, ◌≢◌, ℕ, Bool, true, false, List, [], ◌∷◌, ◌++◌, length, nat_eq, Option, Some, None, Result, Ok, Err, Vec, refl, sym, ap, ◌∙◌, subst, arith}
+use Rattle.std.proofs.Common.{◌≡◌, ◌≢◌, ◌<◌, ◌≤◌, ℕ, Bool, true, false, List, [], ◌∷◌, ◌++◌, length, nat_eq, Option, Some, None, Result, Ok, Err, Vec, refl, sym, ap, ◌∙◌, subst, arith}
 use Rattle.std.specs.declared.alloc.Global.{Global}
 use Rattle.py_flat.specs.declared.fault.IoFault.{IoFault}
 use Rattle.py_flat.specs.declared.fault.IoFault.TheVariants as fault
@@ -17,18 +17,18 @@ use Rattle.py_read_text.specs.Reading.{Gave, GaveNothing, Waited, ReadOutcome, I
 use Rattle.py_read_text.proofs.Fetching.{reads_live}
 use Rattle.py_read_text.proofs.Holding.{text_room, text_read_nothing, text_brought}
 
--- a reading of a chunk of a text's buffer
-pub read_of : (before after : Buffer) (held : HeldView) (front : Option Front) (at taken : ℕ) (dirty : Bool) (settings : TextSettings) (result : Result (Option (Vec ℕ Global)) IoFault) → before.life ≡ life.Live → before.can.readable ≡ true → IsText before held front at taken dirty settings → AnswersAsBuffer before (Read1 (Some settings.chunk_size)) (bytes_reply result) after → ReadOutcome before settings.chunk_size result after
-read_of before after held front at taken dirty settings result live reads is answers = reads_live before after settings.chunk_size result (record { live = live; reads = reads; buffered = is.buffered; kept = is.kept }) is.asks answers
+-- a reading of so many bytes of a text's buffer
+pub read_of : (before after : Buffer) (size : ℕ) (held : HeldView) (front : Option Front) (at taken : ℕ) (dirty : Bool) (settings : TextSettings) (result : Result (Option (Vec ℕ Global)) IoFault) → 0 < size → before.life ≡ life.Live → before.can.readable ≡ true → IsText before held front at taken dirty settings → AnswersAsBuffer before (Read1 (Some size)) (bytes_reply result) after → ReadOutcome before size result after
+read_of before after size held front at taken dirty settings result some live reads is answers = reads_live before after size result (record { live = live; reads = reads; buffered = is.buffered; kept = is.kept }) some answers
 
-pub gave_of : (before after : Buffer) (held : HeldView) (front : Option Front) (at taken : ℕ) (dirty : Bool) (settings : TextSettings) (part : Vec ℕ Global) → before.life ≡ life.Live → before.can.readable ≡ true → IsText before held front at taken dirty settings → AnswersAsBuffer before (Read1 (Some settings.chunk_size)) (Bytes part.items) after → Gave before settings.chunk_size part.items after
-gave_of before after held front at taken dirty settings part live reads is answers = read_of before after held front at taken dirty settings (Ok (Some part)) live reads is answers
+pub gave_of : (before after : Buffer) (size : ℕ) (held : HeldView) (front : Option Front) (at taken : ℕ) (dirty : Bool) (settings : TextSettings) (part : Vec ℕ Global) → 0 < size → before.life ≡ life.Live → before.can.readable ≡ true → IsText before held front at taken dirty settings → AnswersAsBuffer before (Read1 (Some size)) (Bytes part.items) after → Gave before size part.items after
+gave_of before after size held front at taken dirty settings part some live reads is answers = read_of before after size held front at taken dirty settings (Ok (Some part)) some live reads is answers
 
-pub waited_of : (before after : Buffer) (held : HeldView) (front : Option Front) (at taken : ℕ) (dirty : Bool) (settings : TextSettings) → before.life ≡ life.Live → before.can.readable ≡ true → IsText before held front at taken dirty settings → AnswersAsBuffer before (Read1 (Some settings.chunk_size)) NotReady after → Waited before after
-waited_of before after held front at taken dirty settings live reads is answers = read_of before after held front at taken dirty settings (Ok None) live reads is answers
+pub waited_of : (before after : Buffer) (size : ℕ) (held : HeldView) (front : Option Front) (at taken : ℕ) (dirty : Bool) (settings : TextSettings) → 0 < size → before.life ≡ life.Live → before.can.readable ≡ true → IsText before held front at taken dirty settings → AnswersAsBuffer before (Read1 (Some size)) NotReady after → Waited before after
+waited_of before after size held front at taken dirty settings some live reads is answers = read_of before after size held front at taken dirty settings (Ok None) some live reads is answers
 
-pub failed_of : (before after : Buffer) (held : HeldView) (front : Option Front) (at taken : ℕ) (dirty : Bool) (settings : TextSettings) (why : IoFault) → before.life ≡ life.Live → before.can.readable ≡ true → IsText before held front at taken dirty settings → AnswersAsBuffer before (Read1 (Some settings.chunk_size)) (Refused why) after → ReadOutcome before settings.chunk_size (Err why) after
-failed_of before after held front at taken dirty settings why live reads is answers = read_of before after held front at taken dirty settings (Err why) live reads is answers
+pub failed_of : (before after : Buffer) (size : ℕ) (held : HeldView) (front : Option Front) (at taken : ℕ) (dirty : Bool) (settings : TextSettings) (why : IoFault) → 0 < size → before.life ≡ life.Live → before.can.readable ≡ true → IsText before held front at taken dirty settings → AnswersAsBuffer before (Read1 (Some size)) (Refused why) after → ReadOutcome before size (Err why) after
+failed_of before after size held front at taken dirty settings why some live reads is answers = read_of before after size held front at taken dirty settings (Err why) some live reads is answers
 
 -- no byte came
 pub kept_so : (before after : Buffer) (held new : HeldView) (front : Option Front) (at taken : ℕ) (dirty : Bool) (settings : TextSettings) (waited faulted : Bool) → before.life ≡ life.Live → GaveNothing before waited faulted after → new ≡ record held { room = new.room } → IsText before held front at taken dirty settings → IsText after new front at taken dirty settings
@@ -84,14 +84,14 @@ some_part size [] is tested none = absurd (grind arith)
 some_part size (byte ∷ more) is tested none = absurd (cc)
 
 -- some bytes came
-pub more_so : (now old new : TextView) (mid : HeldView) (part piece : List ℕ) (room : ℕ) → old ≡ now → Gave old.buffer old.settings.chunk_size part new.buffer → part ≢ [] → mid ≡ record old.held { room = mid.room } → piece ≡ part → new.held ≡ record mid { bytes = mid.bytes ++ piece; room = room } → FetchOutcome now (Ok chunk.More) new
-more_so now old new mid part piece room is gave some mid_is same put =
+pub more_so : (now old new : TextView) (size : ℕ) (mid : HeldView) (part piece : List ℕ) (room : ℕ) → size ≤ now.settings.chunk_size → old ≡ now → Gave old.buffer size part new.buffer → part ≢ [] → mid ≡ record old.held { room = mid.room } → piece ≡ part → new.held ≡ record mid { bytes = mid.bytes ++ piece; room = room } → FetchOutcome now (Ok chunk.More) new
+more_so now old new size mid part piece room small is gave some mid_is same put =
     let taken : HeldView = record old.held { bytes = old.held.bytes ++ part; room = room } in
     let put_so : new.held ≡ taken = put ∙ (ap (λ (bytes : List ℕ). record mid { bytes = mid.bytes ++ bytes; room = room }) same ∙ ap (λ (own : HeldView). record own { bytes = own.bytes ++ part; room = room }) mid_is) in
     let brought : Brings old new = record {
       part = part;
       some = some;
-      few = gave.fits;
+      few = omega (arith, gave.fits, small, ap (λ (view : TextView). view.settings.chunk_size) is);
       held = put_so ∙ ap (λ (own : ℕ). record old.held { bytes = old.held.bytes ++ part; room = own }) (sym (ap (λ (own : HeldView). own.room) put));
       reads = gave.reads;
       place = gave.place;

@@ -41,6 +41,9 @@ use std::alloc::Global;
 use std::fmt;
 use std::marker::Model;
 
+/// How many bytes are asked for first where a text was put: mostly a line is wanted there, which is shorter.
+const FIRST_SIZE: usize = 512;
+
 /// What a read of the buffer brought.
 #[derive(Clone, Copy)]
 pub(crate) enum Chunk {
@@ -296,6 +299,13 @@ impl<B: BufferedStream> ReadText<B> {
         &self.buffer
     }
 
+    /// Where the buffer stands: behind the bytes in hand.
+    fn buffer_place(&self) -> u64
+        ensures { result ≡ self.now.buffer.place }
+    {
+        self.held.place() + self.held.undecoded() as u64
+    }
+
     /// The byte of the text place.
     pub fn at(&self) -> u64
         ensures { result ≡ self.now.at }
@@ -371,7 +381,7 @@ impl<B: BufferedStream> ReadText<B> {
         ensures joined { IsJoined (over_of self.new) }
     {
         let start = start_of(cookie);
-        let from = self.held.place() + self.held.undecoded() as u64;
+        let from = self.buffer_place();
         let coder = self.held.coder();
         self.held.reserve(MOST_FED)?;
         let mut fed = Vec::new(alloc);
@@ -476,7 +486,7 @@ impl<B: BufferedStream> ReadText<B> {
         // What holds of every text is known from here on.
         let _ = &self.held;
         let _ = (self.buffer.buffer_size(), self.buffer.seekable());
-        if self.held.place() + self.held.undecoded() as u64 == self.at {
+        if self.buffer_place() == self.at {
             return Ok(());
         }
         match self.buffer.seek(self.at as i64, 0) {
@@ -535,14 +545,27 @@ impl<B: BufferedStream> ReadText<B> {
         (buffer, at)
     }
 
-    /// Asks the buffer for a chunk, and puts it behind the bytes in hand. Space is taken before anything is read.
+    /// How many bytes the buffer is asked for next: a chunk, but no more than `FIRST_SIZE` where none were read since the text was put where it
+    /// is. From the first byte of a stream on it is asked for whole chunks, since such a text is mostly read on.
+    fn next_size(&self) -> usize
+        ensures some { 0 < result }
+        ensures few { result ≤ self.now.settings.chunk_size }
+    {
+        let chunk = self.settings.chunk_size;
+        if self.at > 0 && self.buffer_place() == self.at {
+            return chunk.min(FIRST_SIZE);
+        }
+        chunk
+    }
+
+    /// Asks the buffer for a chunk, or for less, and puts what comes behind the bytes in hand. Space is taken before anything is read.
     fn fetch(&mut self, alloc: Global) -> Result<Chunk, IoFault>
         requires live { self.old.buffer.life ≡ Life.Live }
         requires reads { self.old.buffer.can.readable ≡ true }
         ensures keeps { KeepsPlace self.old self.new }
         ensures outcome { FetchOutcome self.old result self.new }
     {
-        let size = self.settings.chunk_size;
+        let size = self.next_size();
         self.held.reserve(size)?;
         match self.buffer.read1(alloc, Some(size)) {
             Ok(Some(part)) => {
