@@ -38,7 +38,7 @@ pub(crate) fn every_second(alloc: Global, items: usize) -> Result<BufferDescript
 }
 
 /// Prints the segments of two descriptors of the same shapes side by side, of which the second alone has a row to join.
-pub(crate) fn print_pairs(rt: &(impl Abort + Print), alloc: Global) {
+fn print_pairs(rt: &(impl Abort + Print), alloc: Global) {
     let apart = every_second(alloc, 3).expect(rt, "room");
     let apart = apart.validate().expect(rt, "items apart");
     let row = BufferDescriptor::simple(alloc, 3, true).expect(rt, "room");
@@ -56,7 +56,7 @@ pub(crate) fn print_pairs(rt: &(impl Abort + Print), alloc: Global) {
 }
 
 /// Prints the segments, joined and one by one.
-pub(crate) fn print_segments(rt: &(impl Abort + Print), alloc: Global) {
+fn print_segments(rt: &(impl Abort + Print), alloc: Global) {
     let rows = two_rows(alloc, 2, 4).expect(rt, "room");
     let rows = rows.validate().expect(rt, "two rows");
     for segment in rows.segments(true) {
@@ -69,7 +69,7 @@ pub(crate) fn print_segments(rt: &(impl Abort + Print), alloc: Global) {
 }
 
 /// Prints positions by indices.
-pub(crate) fn print_positions(rt: &(impl Abort + Print), alloc: Global) {
+fn print_positions(rt: &(impl Abort + Print), alloc: Global) {
     let rows = two_rows(alloc, 2, 4).expect(rt, "room");
     let rows = rows.validate().expect(rt, "two rows");
     if rows.ndim() == 2 {
@@ -80,7 +80,7 @@ pub(crate) fn print_positions(rt: &(impl Abort + Print), alloc: Global) {
 }
 
 /// Prints what a buffer over six bytes lends and collects.
-pub(crate) fn print_buffers(rt: &(impl Abort + Print), alloc: Global) {
+fn print_buffers(rt: &(impl Abort + Print), alloc: Global) {
     let rows = two_rows(alloc, 2, 4).expect(rt, "room");
     let buffer = PyBuffer::new(b"abcdef", rows).expect(rt, "two rows in six bytes");
     let mut bytes = Vec::new(alloc);
@@ -98,7 +98,7 @@ pub(crate) fn print_buffers(rt: &(impl Abort + Print), alloc: Global) {
 }
 
 /// Prints whether rows are refused that leave the bytes, and what a buffer over all of its bytes collects.
-pub(crate) fn print_whole(rt: &(impl Abort + Print), alloc: Global) {
+fn print_whole(rt: &(impl Abort + Print), alloc: Global) {
     let rows = two_rows(alloc, 3, 6).expect(rt, "room");
     show(rt, "a third row", &PyBuffer::new(b"abcdef", rows).is_some());
     let row = BufferDescriptor::simple(alloc, 3, true).expect(rt, "room");
@@ -108,7 +108,7 @@ pub(crate) fn print_whole(rt: &(impl Abort + Print), alloc: Global) {
 }
 
 /// Prints the dimensions of items of two bytes, and of a copy of their descriptor.
-pub(crate) fn print_words(rt: &(impl Abort + Print), alloc: Global) {
+fn print_words(rt: &(impl Abort + Print), alloc: Global) {
     let words = BufferDescriptor::format(alloc, 6, true, 2, "H").expect(rt, "room");
     show_both(rt, "words", &words.dim_desc, " ", &words.format);
     let copied = words.clone().expect(rt, "room");
@@ -116,7 +116,7 @@ pub(crate) fn print_words(rt: &(impl Abort + Print), alloc: Global) {
 }
 
 /// Prints what an owned buffer lends and gives back.
-pub(crate) fn print_owned(rt: &(impl Abort + Print), alloc: Global) {
+fn print_owned(rt: &(impl Abort + Print), alloc: Global) {
     let bytes = VecBuffer::from(Vec::from_slice(alloc, b"ab").expect(rt, "room"));
     let mut buffer = bytes.into_pybuffer(true).ok().expect(rt, "room");
     show(rt, "view", &buffer.view());
@@ -125,7 +125,7 @@ pub(crate) fn print_owned(rt: &(impl Abort + Print), alloc: Global) {
 }
 
 /// Prints the bytes of arguments that are texts or buffers.
-pub(crate) fn print_borrowed(rt: &(impl Abort + Print), alloc: Global) {
+fn print_borrowed(rt: &(impl Abort + Print), alloc: Global) {
     let text = ArgStrOrBytesLike::Str("\u{e9}");
     show(rt, "bytes of a text", &text.borrow_bytes());
     let row = BufferDescriptor::simple(alloc, 2, true).expect(rt, "room");
@@ -139,7 +139,7 @@ pub(crate) fn print_borrowed(rt: &(impl Abort + Print), alloc: Global) {
 }
 
 /// Prints what a text in ASCII lends as an argument.
-pub(crate) fn print_ascii(rt: &(impl Abort + Print)) {
+fn print_ascii(rt: &(impl Abort + Print)) {
     let argument = ArgAsciiBuffer::new(ArgStrOrBytesLike::Str("abc")).expect(rt, "ASCII");
     let lent = argument.with_ref(|b| b == b"abc".as_slice());
     let (len, is_empty) = (argument.len(), argument.is_empty());
@@ -147,7 +147,7 @@ pub(crate) fn print_ascii(rt: &(impl Abort + Print)) {
 }
 
 /// Prints why arguments are refused.
-pub(crate) fn print_arguments(rt: &(impl Abort + Print), alloc: Global) {
+fn print_arguments(rt: &(impl Abort + Print), alloc: Global) {
     let text = ArgAsciiBuffer::new(ArgStrOrBytesLike::Str("\u{e9}"));
     show(rt, "text", &text.err());
     let rows = two_rows(alloc, 2, 4).expect(rt, "room");
@@ -156,4 +156,18 @@ pub(crate) fn print_arguments(rt: &(impl Abort + Print), alloc: Global) {
     let mut bytes = [1u8, 2, 3];
     let row = BufferDescriptor::simple(alloc, 3, true).expect(rt, "room");
     show(rt, "readonly", &ArgMemoryBuffer::new(&mut bytes, row).err());
+}
+
+/// Prints all worked examples of buffers that are read.
+pub(crate) fn print_all(rt: &(impl Abort + Print), alloc: Global) {
+    print_segments(rt, alloc);
+    print_pairs(rt, alloc);
+    print_positions(rt, alloc);
+    print_buffers(rt, alloc);
+    print_whole(rt, alloc);
+    print_words(rt, alloc);
+    print_owned(rt, alloc);
+    print_borrowed(rt, alloc);
+    print_ascii(rt);
+    print_arguments(rt, alloc);
 }

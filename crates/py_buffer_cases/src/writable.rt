@@ -26,7 +26,7 @@ fn show_written(rt: &(impl Abort + Print), alloc: Global, buffer: &mut PyBufferM
 }
 
 /// Prints what a buffer over two rows, written as a whole, lends and collects.
-pub(crate) fn print_buffer(rt: &(impl Abort + Print), alloc: Global) {
+fn print_buffer(rt: &(impl Abort + Print), alloc: Global) {
     let mut bytes = *b"abcdef";
     let mut appended = Vec::new(alloc);
     let rows = two_rows(alloc, 2, 4).expect(rt, "room");
@@ -54,7 +54,7 @@ fn show_still(rt: &(impl Abort + Print), alloc: Global, buffer: &PyBufferMut) {
 }
 
 /// Prints what stands after the first bytes of a buffer were written, which are all that its descriptor names.
-pub(crate) fn print_contiguous(rt: &(impl Abort + Print), alloc: Global) {
+fn print_contiguous(rt: &(impl Abort + Print), alloc: Global) {
     let mut bytes = *b"abcdef";
     let row = BufferDescriptor::simple(alloc, 4, false).expect(rt, "room");
     if let Some(mut buffer) = PyBufferMut::new(&mut bytes, row) {
@@ -66,7 +66,7 @@ pub(crate) fn print_contiguous(rt: &(impl Abort + Print), alloc: Global) {
 }
 
 /// Prints what stands after a buffer was refused, as its descriptor is readonly or leaves the bytes.
-pub(crate) fn print_refused(rt: &(impl Abort + Print), alloc: Global) {
+fn print_refused(rt: &(impl Abort + Print), alloc: Global) {
     let mut bytes = *b"abc";
     let readonly = BufferDescriptor::simple(alloc, 3, true).expect(rt, "room");
     let made = PyBufferMut::new(&mut bytes, readonly).is_some();
@@ -91,7 +91,7 @@ fn fill_argument(argument: &mut ArgMemoryBuffer, byte: u8) -> usize {
 }
 
 /// Prints what stands after an argument was written, and after one was refused.
-pub(crate) fn print_argument(rt: &(impl Abort + Print), alloc: Global) {
+fn print_argument(rt: &(impl Abort + Print), alloc: Global) {
     let mut bytes = *b"abcd";
     let row = BufferDescriptor::simple(alloc, 3, false).expect(rt, "room");
     if let Ok(mut argument) = ArgMemoryBuffer::new(&mut bytes, row) {
@@ -107,7 +107,7 @@ pub(crate) fn print_argument(rt: &(impl Abort + Print), alloc: Global) {
 }
 
 /// Prints what stands after an argument was refused, as its items don't lie one after the other.
-pub(crate) fn print_argument_apart(rt: &(impl Abort + Print), alloc: Global) {
+fn print_argument_apart(rt: &(impl Abort + Print), alloc: Global) {
     let mut bytes = *b"abcd";
     let apart = every_second(alloc, 2).expect(rt, "room").validate();
     let apart = apart.expect(rt, "items apart");
@@ -119,20 +119,22 @@ pub(crate) fn print_argument_apart(rt: &(impl Abort + Print), alloc: Global) {
 }
 
 /// Prints what an argument gives back where it is refused.
-pub(crate) fn print_argument_back(rt: &(impl Abort + Print), alloc: Global) {
+fn print_argument_back(rt: &(impl Abort + Print), alloc: Global) {
     let mut bytes = *b"abcd";
     let apart = every_second(alloc, 2).expect(rt, "room").validate();
     let apart = apart.expect(rt, "items apart");
     if apart.covers(bytes.len()) {
         if let Err(refused) = ArgMemoryBuffer::try_new(&mut bytes, apart) {
-            println!(rt; "given back {:?} {:?}", refused.fault, refused.bytes)
-                .expect(rt, "an output");
+            println!(rt; "given back {:?} {:?}", refused.fault, refused.bytes).expect(
+                rt,
+                "an output",
+            );
         }
     }
 }
 
 /// Prints what a function over the bytes of a buffer, whose items don't lie one after the other, is refused by, and what that leaves.
-pub(crate) fn print_apart(rt: &(impl Abort + Print), alloc: Global) {
+fn print_apart(rt: &(impl Abort + Print), alloc: Global) {
     let mut bytes = *b"abcd";
     let apart = every_second(alloc, 2).expect(rt, "room");
     if let Some(buffer) = PyBuffer::new(b"abcd", apart) {
@@ -148,7 +150,7 @@ pub(crate) fn print_apart(rt: &(impl Abort + Print), alloc: Global) {
 }
 
 /// Prints what a buffer to be written is that an argument gives back.
-pub(crate) fn print_wrapped_to_write(rt: &(impl Abort + Print), alloc: Global) {
+fn print_wrapped_to_write(rt: &(impl Abort + Print), alloc: Global) {
     let mut bytes = *b"abcd";
     let row = BufferDescriptor::simple(alloc, 3, false).expect(rt, "room");
     if let Ok(argument) = ArgMemoryBuffer::new(&mut bytes, row) {
@@ -160,7 +162,7 @@ pub(crate) fn print_wrapped_to_write(rt: &(impl Abort + Print), alloc: Global) {
 }
 
 /// Prints what a buffer to be read is that an argument gives back.
-pub(crate) fn print_wrapped_to_read(rt: &(impl Abort + Print), alloc: Global) {
+fn print_wrapped_to_read(rt: &(impl Abort + Print), alloc: Global) {
     let row = BufferDescriptor::simple(alloc, 3, true).expect(rt, "room");
     let buffer = PyBuffer::new(b"abcd", row).expect(rt, "three of four bytes");
     let argument = ArgBytesLike::new(buffer).expect(rt, "bytes one after the other");
@@ -170,7 +172,7 @@ pub(crate) fn print_wrapped_to_read(rt: &(impl Abort + Print), alloc: Global) {
 }
 
 /// Prints what a function over lent bytes answers, and what an argument borrows.
-pub(crate) fn print_lent_to_read(rt: &(impl Abort + Print), alloc: Global) {
+fn print_lent_to_read(rt: &(impl Abort + Print), alloc: Global) {
     let row = BufferDescriptor::simple(alloc, 3, true).expect(rt, "room");
     let buffer = PyBuffer::new(b"abcd", row).expect(rt, "three of four bytes");
     let read = try_bytes_like(&buffer, |b| b.len());
@@ -180,7 +182,7 @@ pub(crate) fn print_lent_to_read(rt: &(impl Abort + Print), alloc: Global) {
 }
 
 /// Prints what a function that writes lent bytes answers, and what it leaves.
-pub(crate) fn print_lent_to_write(rt: &(impl Abort + Print), alloc: Global) {
+fn print_lent_to_write(rt: &(impl Abort + Print), alloc: Global) {
     let mut bytes = *b"abcd";
     let row = BufferDescriptor::simple(alloc, 3, false).expect(rt, "room");
     if let Some(mut buffer) = PyBufferMut::new(&mut bytes, row) {
@@ -191,7 +193,7 @@ pub(crate) fn print_lent_to_write(rt: &(impl Abort + Print), alloc: Global) {
 }
 
 /// Prints the texts of why an argument is refused.
-pub(crate) fn print_faults(rt: &(impl Abort + Print)) {
+fn print_faults(rt: &(impl Abort + Print)) {
     for fault in [
         ArgFault::NotContiguous,
         ArgFault::ReadOnly,
@@ -218,7 +220,7 @@ fn print_refusal(rt: &(impl Abort + Print), what: &str, desc: BufferDescriptor) 
 }
 
 /// Prints the texts of refused bytes: of items apart, of bytes that may only be read, and of both at once.
-pub(crate) fn print_refusals(rt: &(impl Abort + Print), alloc: Global) {
+fn print_refusals(rt: &(impl Abort + Print), alloc: Global) {
     let apart = every_second(alloc, 2).expect(rt, "room");
     print_refusal(rt, "refused apart", apart);
     let readonly = BufferDescriptor::simple(alloc, 4, true).expect(rt, "room");
@@ -240,14 +242,14 @@ fn show_owned(rt: &(impl Abort + Print), what: &str, buffer: &OwnedBuffer) {
 }
 
 /// Prints what an owned buffer has that a vector became.
-pub(crate) fn print_owned(rt: &(impl Abort + Print), alloc: Global) {
+fn print_owned(rt: &(impl Abort + Print), alloc: Global) {
     let bytes = Vec::from_slice(alloc, b"abc").expect(rt, "room");
     let buffer = OwnedBuffer::from_byte_vector(bytes).ok();
     show_owned(rt, "of a vector", &buffer.expect(rt, "room"));
 }
 
 /// Prints what an owned buffer lends to be written, and what it has then.
-pub(crate) fn print_owned_written(rt: &(impl Abort + Print), alloc: Global) {
+fn print_owned_written(rt: &(impl Abort + Print), alloc: Global) {
     let bytes = VecBuffer::from(Vec::from_slice(alloc, b"abc").expect(rt, "room"));
     let mut buffer = bytes.into_pybuffer(false).ok().expect(rt, "room");
     if let Some(mut all) = buffer.view_mut() {
@@ -258,7 +260,7 @@ pub(crate) fn print_owned_written(rt: &(impl Abort + Print), alloc: Global) {
 }
 
 /// Prints what an owned buffer has whose bytes aren't lent to be written, as it is readonly.
-pub(crate) fn print_readonly(rt: &(impl Abort + Print), alloc: Global) {
+fn print_readonly(rt: &(impl Abort + Print), alloc: Global) {
     let bytes = Vec::from_slice(alloc, b"abc").expect(rt, "room");
     let buffer = OwnedBuffer::from_byte_vector(bytes).ok();
     let mut buffer = buffer.expect(rt, "room");
@@ -267,7 +269,7 @@ pub(crate) fn print_readonly(rt: &(impl Abort + Print), alloc: Global) {
 }
 
 /// Prints what becomes of a vector by a descriptor that leaves it: the bytes come back.
-pub(crate) fn print_described_back(rt: &(impl Abort + Print), alloc: Global) {
+fn print_described_back(rt: &(impl Abort + Print), alloc: Global) {
     let bytes = VecBuffer::from(Vec::from_slice(alloc, b"abcdef").expect(rt, "room"));
     let rows = two_rows(alloc, 3, 6).expect(rt, "room");
     let back = bytes.into_pybuffer_with_descriptor(rows).err();
@@ -277,11 +279,33 @@ pub(crate) fn print_described_back(rt: &(impl Abort + Print), alloc: Global) {
 }
 
 /// Prints what becomes of a vector by a descriptor of one's own that fits: a buffer.
-pub(crate) fn print_described(rt: &(impl Abort + Print), alloc: Global) {
+fn print_described(rt: &(impl Abort + Print), alloc: Global) {
     let bytes = VecBuffer::from(Vec::from_slice(alloc, b"abcdef").expect(rt, "room"));
     let rows = two_rows(alloc, 2, 4).expect(rt, "room");
     let buffer = bytes.into_pybuffer_with_descriptor(rows).ok();
     let buffer = buffer.expect(rt, "two rows in six bytes");
     show(rt, "owned rows", &buffer.desc().dim_desc);
     show_bytes(rt, "owned", &buffer.take());
+}
+
+/// Prints all examples of buffers that are written.
+pub(crate) fn print_all(rt: &(impl Abort + Print), alloc: Global) {
+    print_buffer(rt, alloc);
+    print_contiguous(rt, alloc);
+    print_refused(rt, alloc);
+    print_argument(rt, alloc);
+    print_argument_apart(rt, alloc);
+    print_argument_back(rt, alloc);
+    print_apart(rt, alloc);
+    print_wrapped_to_write(rt, alloc);
+    print_wrapped_to_read(rt, alloc);
+    print_lent_to_read(rt, alloc);
+    print_lent_to_write(rt, alloc);
+    print_faults(rt);
+    print_refusals(rt, alloc);
+    print_owned(rt, alloc);
+    print_owned_written(rt, alloc);
+    print_readonly(rt, alloc);
+    print_described_back(rt, alloc);
+    print_described(rt, alloc);
 }
