@@ -20,6 +20,10 @@ pub(crate) struct Fake {
 }
 
 impl Fake {
+    pub(crate) fn new(step: Step, stands: u64) -> Self {
+        Fake { step, stands }
+    }
+
     fn transfer(&self, length: usize) -> io::Result<usize>
         ensures { IfOk result (λ count. count ≤ length) }
     {

@@ -1,10 +1,11 @@
-//! Tests of what no list of cases reaches: the thin adapters over files, readers and writers, over fakes and over real
-//! files; the readings that a raw stream has of its own; flags, and the texts of errors.
+//! Tests of what no list of cases reaches of the system: the thin adapters over files, readers and writers, over fakes and over real
+//! files.
 //!
-//! The sessions and programs over them have their cases in `py_cases`; handlers of a user's own are tested in
-//! `py_handler_tests`.
+//! The sessions and programs over them have their cases in `py_cases`; what needs no system is tested in `py_handler_tests`.
 #![tactic(auto)]
 
+#[cfg(test)]
+mod calls;
 #[cfg(test)]
 mod failing_files;
 #[cfg(test)]
@@ -14,12 +15,8 @@ mod file_opener;
 #[cfg(test)]
 mod file_raw;
 #[cfg(test)]
-mod raw_modes;
+mod paths;
 #[cfg(test)]
 mod read_write_raw;
 #[cfg(test)]
-mod readings;
-#[cfg(test)]
 mod source_sink;
-#[cfg(test)]
-mod texts;

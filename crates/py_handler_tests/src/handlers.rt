@@ -6,7 +6,6 @@ use py_codec::{
 use py_flat::IoFault;
 use std::alloc::Global;
 use std::process::Abort;
-use std::test::Fail;
 
 /// Gives the same text for any range or run, and goes on at the same place.
 #[derive(Clone, Copy)]
@@ -201,7 +200,7 @@ fn gives(text: &'static str, restart: usize) -> GivesText {
 }
 
 #[test]
-fn ranges_are_given_to_a_handler_of_ones_own(rt: HostRuntime) -> Result<(), Fail> {
+fn ranges_are_given_to_a_handler_of_ones_own(rt: HostRuntime) {
     let alloc = rt.alloc();
     // after the range of one byte and of two; past what follows it; and nothing for it
     decodes_to(&rt, alloc, gives("<>", 2), b"a\xFFb", Ok(("a<>b", 3)));
@@ -247,11 +246,10 @@ fn ranges_are_given_to_a_handler_of_ones_own(rt: HostRuntime) -> Result<(), Fail
     };
     decodes_to(&rt, alloc, byte, b"a\xE2\x82b", Err(refused));
     decodes_to(&rt, alloc, GivesNothing, b"a\xFF", Err(IoFault::NoMemory));
-    Ok(())
 }
 
 #[test]
-fn runs_are_given_to_a_handler_of_ones_own(rt: HostRuntime) -> Result<(), Fail> {
+fn runs_are_given_to_a_handler_of_ones_own(rt: HostRuntime) {
     let alloc = rt.alloc();
     let text = "a\u{20AC}\u{20AC}b";
     encodes_to(&rt, alloc, gives("<>", 3), text, Ok((b"a<>b", 4)));
@@ -284,18 +282,19 @@ fn runs_are_given_to_a_handler_of_ones_own(rt: HostRuntime) -> Result<(), Fail> 
     let refused = IoFault::UnicodeEncodeError { start: 1, end: 3 };
     encodes_to(&rt, alloc, gives("x\u{20AC}", 3), text, Err(refused));
     encodes_to(&rt, alloc, GivesNothing, text, Err(refused));
-    Ok(())
 }
 
 #[test]
-fn a_handler_of_ones_own_serves_other_encodings(rt: HostRuntime) -> Result<(), Fail> {
+fn a_handler_of_ones_own_serves_other_encodings(rt: HostRuntime) {
     let alloc = rt.alloc();
     let marks = HandlerRef::Custom(gives("<>", 2));
-    let (text, used) = utf_16_le_decode(alloc, b"\x00\xDCa\x00\x3D", marks, false)?;
+    let (text, used) = utf_16_le_decode(alloc, b"\x00\xDCa\x00\x3D", marks, false).expect(
+        &rt,
+        "an answer",
+    );
     assert!(rt; (text.as_str(), used) == ("<>a", 4));
-    let (text, used) = ascii_decode(alloc, b"a\x80b", marks)?;
+    let (text, used) = ascii_decode(alloc, b"a\x80b", marks).expect(&rt, "an answer");
     assert!(rt; (text.as_str(), used) == ("a<>b", 3));
-    let (bytes, count) = ascii_encode(alloc, "a\u{E9}b", marks)?;
+    let (bytes, count) = ascii_encode(alloc, "a\u{E9}b", marks).expect(&rt, "an answer");
     assert!(rt; (bytes.as_slice(), count) == (&b"a<>b"[..], 3));
-    Ok(())
 }

@@ -1,42 +1,15 @@
 //! The readings that every raw stream has of its own: once, and up to the end.
 use py_raw::{RawError, RawFlags, RawStream};
 use py_raw_memory::{Cut, MemRaw};
-use std::alloc::{AllocError, Global};
+use std::alloc::Global;
 use std::process::Abort;
-use std::test::Fail;
 
 /// A stream over some bytes that can be read and moved.
-fn raw_over(
-    alloc: Global,
-    bytes: &[u8],
-    plan: &[Cut],
-    faults: &[u64],
-) -> Result<MemRaw, AllocError> {
-    let bytes = bytes.to_vec(alloc)?;
-    let plan = plan.to_vec(alloc)?;
-    let flags = RawFlags::able(true, false, true);
-    Ok(MemRaw::new(bytes, flags, plan, faults.to_vec(alloc)?))
-}
-
-/// Reads once, through the bound.
-fn read_once<R: RawStream>(
-    rt: &impl Abort,
-    raw: &mut R,
-    alloc: Global,
-    n: usize,
-) -> Result<Option<Vec<u8>>, RawError> {
-    assert!(rt; !raw.closed() && raw.readable());
-    raw.read(alloc, n)
-}
-
-/// Reads up to the end, through the bound.
-fn read_all<R: RawStream>(
-    rt: &impl Abort,
-    raw: &mut R,
-    out: &mut Vec<u8>,
-) -> Result<Option<usize>, RawError> {
-    assert!(rt; !raw.closed() && raw.readable());
-    raw.readall(out)
+fn raw_over(rt: &impl Abort, alloc: Global, bytes: &[u8], plan: &[Cut], faults: &[u64]) -> MemRaw {
+    let bytes = bytes.to_vec(alloc).expect(rt, "memory");
+    let plan = plan.to_vec(alloc).expect(rt, "memory");
+    let faults = faults.to_vec(alloc).expect(rt, "memory");
+    MemRaw::new(bytes, RawFlags::able(true, false, true), plan, faults)
 }
 
 /// A transfer of one byte.
@@ -52,22 +25,34 @@ const SINGLE: [(usize, &[Cut], &[u64], Result<Option<&[u8]>, RawError>, u64); 6]
     (9, &[], &[0], Err(RawError::Fault), 0),
 ];
 
+/// Reads once through the bound, and compares what comes.
+fn assert_reads_once<R: RawStream>(
+    rt: &impl Abort,
+    alloc: Global,
+    raw: &mut R,
+    n: usize,
+    answer: Result<Option<&[u8]>, RawError>,
+) {
+    assert!(rt; !raw.closed() && raw.readable());
+    let agrees = match raw.read(alloc, n) {
+        Ok(Some(bytes)) => answer == Ok(Some(bytes.as_slice())),
+        Ok(None) => answer == Ok(None),
+        Err(error) => answer == Err(error),
+    };
+    assert!(rt; agrees, "at {n}");
+}
+
 #[test]
 fn a_single_reading_gives_what_one_transfer_does(rt: HostRuntime) {
     let alloc = rt.alloc();
     for (n, plan, faults, answer, stands) in SINGLE {
-        let mut raw = raw_over(alloc, b"abc", plan, faults).expect(&rt, "memory");
-        let agrees = match read_once(&rt, &mut raw, alloc, n) {
-            Ok(Some(bytes)) => answer == Ok(Some(bytes.as_slice())),
-            Ok(None) => answer == Ok(None),
-            Err(error) => answer == Err(error),
-        };
-        assert!(rt; agrees, "at {n}");
+        let mut raw = raw_over(&rt, alloc, b"abc", plan, faults);
+        assert_reads_once(&rt, alloc, &mut raw, n, answer);
         assert!(rt; raw.place_of() == stands, "at {n}");
     }
 }
 
-/// Reads up to the end, and compares the answer and all that is held then.
+/// Reads up to the end through the bound, and compares the answer and all that is held then.
 fn assert_reads<R: RawStream>(
     rt: &impl Abort,
     raw: &mut R,
@@ -75,7 +60,8 @@ fn assert_reads<R: RawStream>(
     answer: Result<Option<usize>, RawError>,
     held: &[u8],
 ) {
-    assert!(rt; read_all(rt, raw, out) == answer);
+    assert!(rt; !raw.closed() && raw.readable());
+    assert!(rt; raw.readall(out) == answer);
     assert!(rt; out.as_slice() == held);
 }
 
@@ -94,11 +80,14 @@ const UP_TO_THE_END: [(&[Cut], &[u64], Result<Option<usize>, RawError>, &[u8]); 
 fn a_reading_up_to_the_end_keeps_what_came_before_a_fault(rt: HostRuntime) {
     let alloc = rt.alloc();
     for (plan, faults, answer, held) in UP_TO_THE_END {
-        let mut raw = raw_over(alloc, b"abcde", plan, faults).expect(&rt, "memory");
+        let mut raw = raw_over(&rt, alloc, b"abcde", plan, faults);
         let mut out = b".".to_vec(alloc).expect(&rt, "memory");
         assert_reads(&rt, &mut raw, &mut out, answer, held);
     }
 }
+
+/// A plan that waits twice.
+const WAITS: [Cut; 3] = [Cut::Take(2), Cut::Wait, Cut::Wait];
 
 /// What readings of all answer one after the other, and what is held after each.
 const GOES_ON: [(Result<Option<usize>, RawError>, &[u8]); 4] = [
@@ -109,27 +98,22 @@ const GOES_ON: [(Result<Option<usize>, RawError>, &[u8]); 4] = [
 ];
 
 #[test]
-fn a_reading_up_to_the_end_goes_on_where_the_stream_asked_to_wait(
-    rt: HostRuntime,
-) -> Result<(), Fail> {
+fn a_reading_up_to_the_end_goes_on_where_the_stream_asked_to_wait(rt: HostRuntime) {
     let alloc = rt.alloc();
-    let mut raw = raw_over(alloc, b"abc", &[Cut::Take(2), Cut::Wait, Cut::Wait], &[])?;
+    let mut raw = raw_over(&rt, alloc, b"abc", &WAITS, &[]);
     let mut out = Vec::new(alloc);
     for (answer, held) in GOES_ON {
         assert_reads(&rt, &mut raw, &mut out, answer, held);
     }
-    Ok(())
 }
 
 #[test]
-fn a_reading_up_to_the_end_asks_for_more_each_time(rt: HostRuntime) -> Result<(), Fail> {
+fn a_reading_up_to_the_end_asks_for_more_each_time(rt: HostRuntime) {
     let alloc = rt.alloc();
     let mut long = Vec::new(alloc);
-    long.resize(20000, b'x')?;
-    let mut raw = raw_over(alloc, long.as_slice(), &[], &[])?;
+    long.resize(20000, b'x').expect(&rt, "memory");
+    let mut raw = raw_over(&rt, alloc, long.as_slice(), &[], &[]);
     let mut out = Vec::new(alloc);
-    assert!(rt; read_all(&rt, &mut raw, &mut out) == Ok(Some(20000)));
-    assert!(rt; out == long);
+    assert_reads(&rt, &mut raw, &mut out, Ok(Some(20000)), long.as_slice());
     assert!(rt; raw.transfer_count() == 4);
-    Ok(())
 }
