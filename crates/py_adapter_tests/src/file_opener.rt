@@ -74,6 +74,20 @@ fn assert_holds(rt: &(impl Abort + Files + Alloc), path: &str, want: Option<&[u8
     }
 }
 
+/// Opens a path by a mode, or doesn't where it mustn't, and compares what the path holds then.
+fn assert_leaves<O: Opener>(
+    rt: &(impl Abort + Files + Alloc),
+    alloc: Global,
+    opener: &mut O,
+    path: &str,
+    mode: &str,
+    (may_open, holds): (bool, Option<&[u8]>),
+) {
+    let opened = opens(rt, alloc, opener, path, mode);
+    assert!(rt; opened == may_open, "at {mode}");
+    assert_holds(rt, path, holds, mode);
+}
+
 /// What each mode does to a path that holds nothing, to one that holds `old`, and to a folder.
 fn assert_opens<O: Opener>(
     rt: &(impl Abort + Files + Alloc),
@@ -83,16 +97,13 @@ fn assert_opens<O: Opener>(
     folder: &str,
 ) {
     for (mode, missing, existing) in EACH_MODE {
-        let made = opens(rt, alloc, opener, path, mode);
-        assert!(rt; made == missing.is_some(), "{mode} of a missing path");
-        assert_holds(rt, path, missing, mode);
+        let made = (missing.is_some(), missing);
+        assert_leaves(rt, alloc, opener, path, mode, made);
         fs::write(rt, path, "old").expect(rt, "a file to write");
-        let opened = opens(rt, alloc, opener, path, mode);
-        assert!(rt; opened == existing.is_some(), "{mode} of a file");
-        assert_holds(rt, path, existing.or(Some(b"old")), mode);
+        let changed = (existing.is_some(), existing.or(Some(b"old")));
+        assert_leaves(rt, alloc, opener, path, mode, changed);
         fs::remove_file(rt, path).expect(rt, "a file to remove");
-        let opened = opens(rt, alloc, opener, folder, mode);
-        assert!(rt; !opened, "{mode} of a folder");
+        assert!(rt; !opens(rt, alloc, opener, folder, mode), "at {mode}");
     }
 }
 
