@@ -1,7 +1,7 @@
 //! Tests of what no list of cases reaches of the system: the thin adapters over files, readers and writers, over fakes and over real
 //! files.
 //!
-//! The sessions and programs over them have their cases in `py_cases`; what needs no system is tested in `py_handler_tests`.
+//! The sessions and programs over them have their cases in `py_cases`; what needs no system is tested in `py_small_tests`.
 #![tactic(auto)]
 
 #[cfg(test)]
