@@ -177,12 +177,19 @@ part_put : (own new : List ℕ) (start : ℕ) → start ≤ length own → drop 
 part_put own new start within =
     drop_at (take start own) (new ++ drop (length own - start) (drop start own)) start (length-take-le start own within) ∙ ap (λ (xs : List ℕ). new ++ xs) (drop_all (length own - start) (drop start own) (omega (arith, length-drop start own))) ∙ append-nil new
 
--- what a reading of such a part gave stands behind what stood before it
-pub gives_front : (a b c : Option (List ℕ)) (own new : List ℕ) (start count : ℕ) → start ≤ length own → Consumes a b (take start own) → Consumes b c (take count new) → Consumes a c (take (start + count) (put_mid start (length own - start) own new))
-gives_front a b c own new start count within came more =
+-- a front of such a part stands behind what stood before it
+pub front_put : (own new : List ℕ) (start count : ℕ) → start ≤ length own → take (start + count) (put_mid start (length own - start) own new) ≡ take start own ++ take count new
+front_put own new start count within =
     let whole : List ℕ = put_mid start (length own - start) own new in
-    let front : take (start + count) whole ≡ take start own ++ take count new = take-add start count whole ∙ ap (λ (xs : List ℕ). xs ++ take count (drop start whole)) (take-put_mid_below _ _ _ _ _ (le_refl _) within) ∙ ap (λ (xs : List ℕ). take start own ++ take count xs) (part_put own new start within) in
-    subst (Consumes a c) (sym front) (Consumes-trans a b c (take start own) (take count new) came more)
+    take-add start count whole ∙ ap (λ (xs : List ℕ). xs ++ take count (drop start whole)) (take-put_mid_below _ _ _ _ _ (le_refl _) within) ∙ ap (λ (xs : List ℕ). take start own ++ take count xs) (part_put own new start within)
+
+-- and that stays
+pub front_stays : (own new : List ℕ) (start : ℕ) → start ≤ length own → take start (put_mid start (length own - start) own new) ≡ take start own
+front_stays own new start within = take-put_mid_below _ _ _ _ _ (le_refl _) within
+
+-- so does what a reading of it gave
+pub gives_front : (a b c : Option (List ℕ)) (own new : List ℕ) (start count : ℕ) → start ≤ length own → Consumes a b (take start own) → Consumes b c (take count new) → Consumes a c (take (start + count) (put_mid start (length own - start) own new))
+gives_front a b c own new start count within came more = subst (Consumes a c) (sym (front_put own new start count within)) (Consumes-trans a b c (take start own) (take count new) came more)
 
 -- and what the buffer has after that stays
 pub gives_behind : (old own part new : List ℕ) (start count : ℕ) → start ≤ length own → part ≡ drop start own → drop start own ≡ drop start old → drop count new ≡ drop count part → drop (start + count) (put_mid start (length own - start) own new) ≡ drop (start + count) old

@@ -1,5 +1,6 @@
-mod Chopping
+mod Cutting
 mod Told
 mod Known
 mod Loans
 mod Rests
+mod Turns

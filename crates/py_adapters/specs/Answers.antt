@@ -1,5 +1,5 @@
 -- What the calls of std's traits answer, by the stream's own.
-use Rattle.std.specs.Prelude.{◌≡◌, ◌≢◌, ℕ, ◌<◌, ℤ, pos, negsuc, Bool, true, false, nat_le, List, length, drop, Option, Some, None, Result, Ok, Err, IfErr}
+use Rattle.std.specs.Prelude.{◌≡◌, ◌≢◌, ℕ, zero, suc, ◌+◌, ◌-◌, ◌<◌, ℤ, pos, negsuc, Bool, true, false, nat_le, List, [], ◌∷◌, length, take, drop, Option, Some, None, Result, Ok, Err, IfErr}
 use denote.Bor.{Bor}
 use Rattle.std.specs.IoError.{error_kind}
 use Rattle.std.specs.declared.io.Error.{Error}
@@ -8,9 +8,10 @@ use Rattle.std.specs.declared.io.traits.SeekFrom.{SeekFrom}
 use Rattle.std.specs.declared.io.traits.SeekFrom.TheVariants.{Start, End, Current}
 use Rattle.py_flat.specs.declared.fault.IoFault.{IoFault}
 use Rattle.py_flat.specs.Limits.{greatest_place}
-use Rattle.py_flat.specs.Calls.{Seek}
+use Rattle.py_flat.specs.Lines.{joined}
+use Rattle.py_flat.specs.Calls.{FileReply, Bytes, Write, Seek}
 use Rattle.py_flat.specs.Conversions.{kind_of}
-use Rattle.py_stream.specs.Replies.{place_reply}
+use Rattle.py_stream.specs.Replies.{into_reply, count_reply, place_reply}
 use Rattle.py_stream.specs.Buffer.{Buffer, AnswersAsBuffer}
 
 -- the stream's own call was made, and answered by its clause what std's answer says
@@ -54,6 +55,52 @@ SaysWritten came taken result = ⊥
 -- std's loops make a call again that was interrupted: none is
 abbrev pub IsntInterrupted : {A : Type 0} → Result A Error → Type 0
 IsntInterrupted result = IfErr result (λ error. error_kind error ≢ kind.Interrupted)
+
+-- Readings and writes of all that was asked for: one call after another, over any raw.
+
+-- calls that moved some bytes each, the first behind so many that were moved before
+abbrev pub InTurn : {Own : Type 0} (Moves : ℕ → Own → List ℕ → Own → Type 0) → ℕ → Own → List (List ℕ) → Own → Type 0
+InTurn Moves done before [] after = after ≡ before
+InTurn {Own} Moves done before (part ∷ parts) after = (mid : Own) × (part ≢ []) × Moves done before part mid × InTurn Moves (done + length part) mid parts after
+
+-- some bytes were moved by such calls, a front of them where it ended with an error: `Ends` says how it ended, behind so many
+pub record MovesInTurn {Own : Type 0} (Moves : ℕ → Own → List ℕ → Own → Type 0) (Ends : ℕ → Own → Result (Unit {0}) Error → Own → Type 0) (all : List ℕ) (before : Own) (result : Result (Unit {0}) Error) (after : Own) : Type 0 where
+  pub parts : List (List ℕ)
+  pub front : take (length (joined parts)) all ≡ joined parts
+  pub mid : Own
+  pub turns : InTurn Moves 0 before parts mid
+  pub ends : Ends (length (joined parts)) mid result after
+
+-- a reading of what is left of a size gave these bytes
+abbrev pub GivesPart : {Own : Type 0} (answers : Own → ℕ → FileReply → Own → Type 0) (size : ℕ) → ℕ → Own → List ℕ → Own → Type 0
+GivesPart answers size done before part after = answers before (size - done) (Bytes part) after
+
+-- the last reading gave none, as nothing is left; or the raw would have blocked; or it was refused
+abbrev pub SaysEnded : Result (Option ℕ) IoFault → Error → Type 0
+SaysEnded (Ok (Some zero)) error = error_kind error ≡ kind.UnexpectedEof
+SaysEnded (Ok (Some (suc count))) error = ⊥
+SaysEnded (Ok None) error = error_kind error ≡ kind.WouldBlock
+SaysEnded (Err why) error = error_kind error ≡ kind_of why
+
+-- a reading of a size ends once all of it came, or with the error of one reading more
+abbrev pub EndsReading : {Own : Type 0} (answers : Own → ℕ → FileReply → Own → Type 0) (size : ℕ) → ℕ → Own → Result (Unit {0}) Error → Own → Type 0
+EndsReading answers size done before (Ok all) after = (done ≡ size) × (after ≡ before)
+EndsReading answers size done before (Err error) after = (done < size) × AnsweredBy (λ came. answers before (size - done) (into_reply came []) after) (λ came. SaysEnded came error)
+
+-- a write of what is left of some bytes took these
+abbrev pub TakesPart : (all : List ℕ) → ℕ → Buffer → List ℕ → Buffer → Type 0
+TakesPart all done before part after = AnsweredBy (λ came. AnswersAsBuffer before (Write (drop done all)) (count_reply came) after) (λ came. SaysWritten came after.taken (Ok (length part)))
+
+-- the last write took none, and said so or was refused
+abbrev pub SaysTookNone : Result ℕ IoFault → (taken : ℕ) → Error → Type 0
+SaysTookNone (Ok zero) taken error = error_kind error ≡ kind.WriteZero
+SaysTookNone (Ok (suc count)) taken error = ⊥
+SaysTookNone (Err why) taken error = (taken ≡ 0) × (error_kind error ≡ kind_of why)
+
+-- a write of some bytes ends once all of them were taken, or with the error of one write more
+abbrev pub EndsWriting : (all : List ℕ) → ℕ → Buffer → Result (Unit {0}) Error → Buffer → Type 0
+EndsWriting all done before (Ok taken) after = (done ≡ length all) × (after ≡ before)
+EndsWriting all done before (Err error) after = (done < length all) × AnsweredBy (λ came. AnswersAsBuffer before (Write (drop done all)) (count_reply came) after) (λ came. SaysTookNone came after.taken error)
 
 -- Seeks.
 

@@ -1,8 +1,8 @@
-//! Streams as others take them: as std's readers, writers and seekers, as whatever is read line by line (`LineSource`), and as whatever text is
-//! written to (`Write`), which strings and sinks are, too.
+//! Streams as others take them: as std's readers, writers and seekers; as whatever is read line by line (`LineSource`), also by an iterator
+//! (`SourceLines`); and as whatever text is written to (`Write`), which strings and sinks are, too, or by std's `fmt` (`FmtWriter`).
 //!
-//! What takes an `std::io::Read`, `BufRead`, `Write` or `Seek` takes a `StdStream` of one. The other
-//! way, a raw stream over whatever is a reader or a writer of std's, is `ReadRaw` and `WriteRaw` of `py_raw_files`.
+//! What takes an `std::io::Read`, `BufRead`, `Write` or `Seek` takes a `StdStream` of one. The other way, a raw stream over whatever is a
+//! reader or a writer of std's, is `ReadRaw` and `WriteRaw` of `py_raw_files`.
 #![tactic(auto)]
 
 mod answers;

@@ -61,7 +61,7 @@ impl<S: ReadOnce> Read for StdStream<S> {
     ghost use Rattle.std.specs.Io.KnownBytes.{Consumes, ReadConsumes};
     ghost use Rattle.py_stream.specs.Replies.{into_reply};
     ghost use Rattle.py_adapters.specs.Known.{GivesFront};
-    ghost use Rattle.py_adapters.specs.Answers.{AnsweredBy, SaysRead, LeavesBehind, IsntInterrupted};
+    ghost use Rattle.py_adapters.specs.Answers.{AnsweredBy, SaysRead, LeavesBehind, MovesInTurn, GivesPart, EndsReading, IsntInterrupted};
 
     ghost remaining = { λ stream. S.left stream };
 
@@ -85,13 +85,14 @@ impl<S: ReadOnce> Read for StdStream<S> {
         }
     }
 
-    /// Fills `buf` with the next bytes, by as many readings as that takes. `UnexpectedEof`: fewer are left.
+    /// Fills `buf` with the next bytes, by as many readings as that takes. `UnexpectedEof`: fewer are left, as a reading that gave none said.
     ///
-    /// Every other error is one of `read`. Those bytes that came before an error stand at the front of `buf`, and aren't left; how many
+    /// Every other error is that of the last reading: `WouldBlock` where the raw would have blocked, else that of its refusal. Those bytes that came before an error stand at the front of `buf`, and aren't left; how many
     /// they are isn't told, as of std's own: where that matters, `read`.
     fn read_exact(&mut self, buf: &mut [u8]) -> io::Result<()>
         ensures bytes { OnOk result (Consumes (S.left self.old) (S.left self.new) buf.new) }
         ensures part { IfErr result (λ error. GivesFront (S.left self.old) buf.old buf.new (S.left self.new)) }
+        ensures turns { MovesInTurn (GivesPart S.answers (length buf.old)) (EndsReading S.answers (length buf.old)) buf.new self.old result self.new }
         ensures retried { IsntInterrupted result }
     {
         let mut at = 0;
@@ -155,7 +156,7 @@ impl<S: BufferedStream> Write for StdStream<S> {
     ghost use Rattle.py_stream.specs.Replies.{count_reply, done_reply};
     ghost use Rattle.py_stream.specs.Buffer.{AnswersAsBuffer};
     ghost use Rattle.py_adapters.specs.Known.{written_in, TakesFront};
-    ghost use Rattle.py_adapters.specs.Answers.{AnsweredBy, Says, SaysWritten, IsntInterrupted};
+    ghost use Rattle.py_adapters.specs.Answers.{AnsweredBy, Says, SaysWritten, MovesInTurn, TakesPart, EndsWriting, IsntInterrupted};
 
     ghost contents = { λ stream. written_in (S.shows stream) };
 
@@ -178,11 +179,12 @@ impl<S: BufferedStream> Write for StdStream<S> {
 
     /// Takes all of `buf`, by as many writes as that takes.
     ///
-    /// Every error is one of `write`, but for `WriteZero`, where a write took nothing and said so. Some of the bytes may be taken then; how
+    /// Every error is that of the last write, but for `WriteZero`, where that took nothing and said so. Some of the bytes may be taken then; how
     /// many isn't told, as of std's own: where that matters, `write`.
     fn write_all(&mut self, buf: &[u8]) -> io::Result<()>
         ensures bytes { OnOk result (Appends (written_in (S.shows self.old)) (written_in (S.shows self.new)) buf.now) }
         ensures part { IfErr result (λ error. TakesFront (written_in (S.shows self.old)) buf.now (written_in (S.shows self.new))) }
+        ensures turns { MovesInTurn (TakesPart buf.now) (EndsWriting buf.now) buf.now (S.shows self.old) result (S.shows self.new) }
         ensures retried { IsntInterrupted result }
     {
         let mut rest = buf;

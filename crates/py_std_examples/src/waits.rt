@@ -42,6 +42,32 @@ fn shown(alloc: Global, word: &str, waits: io::Result<u64>, whole: bool) -> Resu
     Ok(format!(in alloc; "{word} over waits: {waits} calls more, whole: {whole}")?)
 }
 
+/// Why a reading of all that was asked for ended.
+fn ended_by(answer: io::Result<()>) -> &'static str {
+    match answer {
+        Ok(()) => "all came",
+        Err(error) => match error.kind() {
+            ErrorKind::WouldBlock => "a wait",
+            ErrorKind::UnexpectedEof => "the end",
+            _ => "a refusal",
+        },
+    }
+}
+
+/// A reading of all that is asked for, behind a wait and at the end: what came before stands at the front.
+pub(crate) fn exactly(alloc: Global) -> Result<String> {
+    let mut stream = waiting_reader(alloc)?;
+    let mut space = *b"----";
+    let first = ended_by(stream.read_exact(&mut space));
+    let came = space == *b"he--";
+    let second = ended_by(stream.read_exact(&mut space[..1]));
+    let third = ended_by(stream.read_exact(&mut space));
+    let fourth = ended_by(stream.read_exact(&mut space));
+    Ok(format!(in alloc;
+        "exactly: {first}, in front what came: {came}; {second}; {third}; {fourth}"
+    )?)
+}
+
 /// Writes all bytes to a writer, and flushes it; answers in how many turns after the first.
 fn write_all<W: Write>(writer: &mut W, bytes: &[u8]) -> io::Result<u64> {
     let mut rest = bytes;

@@ -1,5 +1,5 @@
 use Rattle.std.proofs.Common.{arith}
-use Rattle.py_adapters.proofs.Chopping.{pair_none, pair_half, pair_both}
+use Rattle.py_adapters.proofs.Cutting.{pair_none, pair_half, pair_both}
 use Rattle.py_adapters.proofs.chopping.chop_pair_of_bytes.Goals as goal
 
 pub returns-then-not-pop_byte : goal.returns-then-not-pop_byte

@@ -1,6 +1,6 @@
 use Rattle.std.proofs.Common.{◌∙◌, arith, rules}
 use Rattle.py_flat.specs.Lines.{lf}
-use Rattle.py_adapters.proofs.Chopping.{pair_none, pair_half, pair_both, ended}
+use Rattle.py_adapters.proofs.Cutting.{pair_none, pair_half, pair_both, ended}
 use Rattle.py_adapters.proofs.chopping.chop_pair_of_text.Goals as goal
 
 pub returns-then-not-pop_char : goal.returns-then-not-pop_char

@@ -1,5 +1,5 @@
 use Rattle.std.proofs.Common.{arith}
-use Rattle.py_adapters.proofs.Chopping.{lf_cut, cr_cut, any_cut}
+use Rattle.py_adapters.proofs.Cutting.{lf_cut, cr_cut, any_cut}
 use Rattle.py_adapters.proofs.chopping.chop_text.Goals as goal
 
 pub returns : goal.returns

@@ -1,5 +1,5 @@
 use Rattle.std.proofs.Common.{arith}
-use Rattle.py_adapters.proofs.Chopping.{chops, ends_with}
+use Rattle.py_adapters.proofs.Cutting.{chops, ends_with}
 use Rattle.py_adapters.proofs.chopping.pop_byte.Goals as goal
 
 pub returns-in-Some-clause-popped : goal.returns-in-Some-clause-popped

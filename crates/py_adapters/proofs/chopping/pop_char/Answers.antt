@@ -1,5 +1,5 @@
 use Rattle.std.proofs.Common.{◌∙◌, sym, arith, rules}
-use Rattle.py_adapters.proofs.Chopping.{tells, kept, cut, no_characters}
+use Rattle.py_adapters.proofs.Cutting.{tells, kept, cut, no_characters}
 use Rattle.py_adapters.proofs.chopping.pop_char.Goals as goal
 
 pub returns-then-is_empty-clause-popped : goal.returns-then-is_empty-clause-popped
