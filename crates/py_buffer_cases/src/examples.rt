@@ -1,13 +1,12 @@
 //! Worked examples, whose answers stand in `stdout`.
 ghost use Rattle.std.specs.Prelude.{◌≡◌, pos, ◌∷◌, [], IfOk};
 
-use crate::shown::{show, show_both, show_bytes};
+use anyhow::{Result, bail};
 use py_buffer::{
     ArgAsciiBuffer, ArgBytesLike, ArgMemoryBuffer, ArgStrOrBytesLike, BufferDescriptor, PyBuffer,
     VecBuffer,
 };
 use std::alloc::{AllocError, Global};
-use std::process::Abort;
 
 /// Two rows of two bytes, the second of which begins three bytes after the first.
 pub(crate) fn two_rows(
@@ -15,12 +14,15 @@ pub(crate) fn two_rows(
     shape: usize,
     len: usize,
 ) -> Result<BufferDescriptor, AllocError> {
+    let mut dim_desc = Vec::new(alloc);
+    dim_desc.push((shape, 3, 0))?;
+    dim_desc.push((2, 1, 0))?;
     Ok(BufferDescriptor {
         len,
         readonly: false,
         itemsize: 1,
         format: "B",
-        dim_desc: [(shape, 3, 0), (2, 1, 0)].to_vec(alloc)?,
+        dim_desc,
     })
 }
 
@@ -28,146 +30,156 @@ pub(crate) fn two_rows(
 pub(crate) fn every_second(alloc: Global, items: usize) -> Result<BufferDescriptor, AllocError>
     ensures { IfOk result (λ made. made.dim_desc.items ≡ (items, pos 2, pos 0) ∷ []) }
 {
+    let mut dim_desc = Vec::new(alloc);
+    dim_desc.push((items, 2, 0))?;
     Ok(BufferDescriptor {
         len: items,
         readonly: false,
         itemsize: 1,
         format: "B",
-        dim_desc: [(items, 2, 0)].to_vec(alloc)?,
+        dim_desc,
     })
 }
 
 /// Prints the segments of two descriptors of the same shapes side by side, of which the second alone has a row to join.
-fn print_pairs(rt: &(impl Abort + Print), alloc: Global) {
-    let apart = every_second(alloc, 3).expect(rt, "room");
-    let apart = apart.validate().expect(rt, "items apart");
-    let row = BufferDescriptor::simple(alloc, 3, true).expect(rt, "room");
-    let row = row.validate().expect(rt, "a row");
+pub(crate) fn print_pairs(rt: &HostRuntime) -> Result<()> {
+    let alloc = rt.alloc();
+    let Some(apart) = every_second(alloc, 3)?.validate() else {
+        bail!("items apart are refused");
+    };
+    let Some(row) = BufferDescriptor::simple(alloc, 3, true)?.validate() else {
+        bail!("a row is refused");
+    };
     for start in [4, 6] {
         let stopped = apart.zip_eq(&row, true, |one, other| {
             one.start == start && other.start == 2
         });
-        show_both(rt, "a pair at", &start, " ", &stopped);
+        println!(rt; "a pair at {start} {stopped}")?;
     }
     let wide = apart.zip_eq(&row, true, |_, other| other.start == 0 && other.end == 3);
-    show(rt, "a row beside single items", &wide);
+    println!(rt; "a row beside single items {wide}")?;
     let joined = row.zip_eq(&row, true, |one, other| one.end == 3 && other.end == 3);
-    show(rt, "a row beside itself", &joined);
+    println!(rt; "a row beside itself {joined}")?;
+    Ok(())
 }
 
 /// Prints the segments, joined and one by one.
-fn print_segments(rt: &(impl Abort + Print), alloc: Global) {
-    let rows = two_rows(alloc, 2, 4).expect(rt, "room");
-    let rows = rows.validate().expect(rt, "two rows");
+pub(crate) fn print_segments(rt: &HostRuntime) -> Result<()> {
+    let Some(rows) = two_rows(rt.alloc(), 2, 4)?.validate() else {
+        bail!("two rows are refused");
+    };
     for segment in rows.segments(true) {
-        show(rt, "joined", &segment);
+        println!(rt; "joined {}..{}", segment.start, segment.end)?;
     }
     for segment in rows.segments(false) {
-        show(rt, "single", &segment);
+        println!(rt; "single {}..{}", segment.start, segment.end)?;
     }
-    show(rt, "contiguous", &rows.is_contiguous());
+    println!(rt; "contiguous {}", rows.is_contiguous())?;
+    Ok(())
 }
 
 /// Prints positions by indices.
-fn print_positions(rt: &(impl Abort + Print), alloc: Global) {
-    let rows = two_rows(alloc, 2, 4).expect(rt, "room");
-    let rows = rows.validate().expect(rt, "two rows");
+pub(crate) fn print_positions(rt: &HostRuntime) -> Result<()> {
+    let Some(rows) = two_rows(rt.alloc(), 2, 4)?.validate() else {
+        bail!("two rows are refused");
+    };
     if rows.ndim() == 2 {
-        show(rt, "position -1 1", &rows.position(&[-1, 1]));
-        show(rt, "position 2 0", &rows.position(&[2, 0]));
-        show(rt, "position 0 -3", &rows.position(&[0, -3]));
+        println!(rt; "position -1 1 {:?}", rows.position(&[-1, 1]))?;
+        println!(rt; "position 2 0 {:?}", rows.position(&[2, 0]))?;
+        println!(rt; "position 0 -3 {:?}", rows.position(&[0, -3]))?;
     }
+    Ok(())
 }
 
-/// Prints what a buffer over six bytes lends and collects.
-fn print_buffers(rt: &(impl Abort + Print), alloc: Global) {
-    let rows = two_rows(alloc, 2, 4).expect(rt, "room");
-    let buffer = PyBuffer::new(b"abcdef", rows).expect(rt, "two rows in six bytes");
+/// Prints what buffers over six bytes lend and collect.
+pub(crate) fn print_buffers(rt: &HostRuntime) -> Result<()> {
+    let alloc = rt.alloc();
+    let Some(buffer) = PyBuffer::new(b"abcdef", two_rows(alloc, 2, 4)?) else {
+        bail!("two rows leave six bytes");
+    };
     let mut bytes = Vec::new(alloc);
-    buffer.append_to(&mut bytes).expect(rt, "room");
-    show_bytes(rt, "appended", &bytes);
-    show_both(
-        rt,
-        "lent",
-        &buffer.as_contiguous(),
-        ", of all ",
-        &buffer.obj_bytes().len(),
-    );
-    let collected = buffer.contiguous_or_collect(alloc, |b| b == b"abde".as_slice());
-    show(rt, "rows collected", &collected.expect(rt, "room"));
-}
-
-/// Prints whether rows are refused that leave the bytes, and what a buffer over all of its bytes collects.
-fn print_whole(rt: &(impl Abort + Print), alloc: Global) {
-    let rows = two_rows(alloc, 3, 6).expect(rt, "room");
-    show(rt, "a third row", &PyBuffer::new(b"abcdef", rows).is_some());
-    let row = BufferDescriptor::simple(alloc, 3, true).expect(rt, "room");
-    let buffer = PyBuffer::new(b"abc", row).expect(rt, "three bytes");
-    let collected = buffer.contiguous_or_collect(alloc, |b| b == b"abc".as_slice());
-    show(rt, "collected", &collected.expect(rt, "room"));
-}
-
-/// Prints the dimensions of items of two bytes, and of a copy of their descriptor.
-fn print_words(rt: &(impl Abort + Print), alloc: Global) {
-    let words = BufferDescriptor::format(alloc, 6, true, 2, "H").expect(rt, "room");
-    show_both(rt, "words", &words.dim_desc, " ", &words.format);
-    let copied = words.clone().expect(rt, "room");
-    show(rt, "copied", &copied.dim_desc);
+    buffer.append_to(&mut bytes)?;
+    println!(rt; "appended {:?}", str::from_utf8(&bytes)?)?;
+    println!(rt;
+        "lent {:?}, of all {}",
+        buffer.as_contiguous(),
+        buffer.obj_bytes().len()
+    )?;
+    println!(rt;
+        "rows collected {}",
+        buffer.contiguous_or_collect(alloc, |b| b == b"abde".as_slice())?
+    )?;
+    let third = PyBuffer::new(b"abcdef", two_rows(alloc, 3, 6)?);
+    println!(rt; "a third row {}", third.is_some())?;
+    if let Some(buffer) = PyBuffer::new(b"abc", BufferDescriptor::simple(alloc, 3, true)?) {
+        println!(rt;
+            "collected {}",
+            buffer.contiguous_or_collect(alloc, |b| b == b"abc".as_slice())?
+        )?;
+    }
+    let words = BufferDescriptor::format(alloc, 6, true, 2, "H")?;
+    println!(rt; "words {:?} {}", words.dim_desc, words.format)?;
+    println!(rt; "copied {:?}", words.clone()?.dim_desc)?;
+    Ok(())
 }
 
 /// Prints what an owned buffer lends and gives back.
-fn print_owned(rt: &(impl Abort + Print), alloc: Global) {
-    let bytes = VecBuffer::from(Vec::from_slice(alloc, b"ab").expect(rt, "room"));
-    let mut buffer = bytes.into_pybuffer(true).ok().expect(rt, "room");
-    show(rt, "view", &buffer.view());
-    show(rt, "view to write", &buffer.view_mut().is_some());
-    show(rt, "taken", &buffer.take());
+pub(crate) fn print_owned(rt: &HostRuntime) -> Result<()> {
+    let alloc = rt.alloc();
+    let bytes = VecBuffer::from(Vec::from_slice(alloc, b"ab")?);
+    match bytes.into_pybuffer(true) {
+        Ok(mut buffer) => {
+            println!(rt; "view {:?}", buffer.view())?;
+            println!(rt; "view to write {:?}", buffer.view_mut().is_some())?;
+            println!(rt; "taken {:?}", buffer.take())?;
+        }
+        Err(_) => println!(rt; "out of memory")?,
+    }
+    Ok(())
 }
 
 /// Prints the bytes of arguments that are texts or buffers.
-fn print_borrowed(rt: &(impl Abort + Print), alloc: Global) {
-    let text = ArgStrOrBytesLike::Str("\u{e9}");
-    show(rt, "bytes of a text", &text.borrow_bytes());
-    let row = BufferDescriptor::simple(alloc, 2, true).expect(rt, "room");
-    let buffer = PyBuffer::new(b"abc", row).expect(rt, "two of three bytes");
-    let argument = ArgBytesLike::new(buffer).expect(rt, "bytes one after the other");
-    show(
-        rt,
-        "of a buffer",
-        &ArgStrOrBytesLike::Buf(argument).borrow_bytes(),
-    );
-}
-
-/// Prints what a text in ASCII lends as an argument.
-fn print_ascii(rt: &(impl Abort + Print)) {
-    let argument = ArgAsciiBuffer::new(ArgStrOrBytesLike::Str("abc")).expect(rt, "ASCII");
-    let lent = argument.with_ref(|b| b == b"abc".as_slice());
-    let (len, is_empty) = (argument.len(), argument.is_empty());
-    println!(rt; "of ASCII {lent}, {len}, {is_empty}").expect(rt, "an output");
+pub(crate) fn print_borrowed(rt: &HostRuntime) -> Result<()> {
+    let alloc = rt.alloc();
+    println!(rt;
+        "bytes of a text {:?}",
+        ArgStrOrBytesLike::Str("\u{e9}").borrow_bytes()
+    )?;
+    if let Some(buffer) = PyBuffer::new(b"abc", BufferDescriptor::simple(alloc, 2, true)?) {
+        if let Ok(argument) = ArgBytesLike::new(buffer) {
+            println!(rt;
+                "of a buffer {:?}",
+                ArgStrOrBytesLike::Buf(argument).borrow_bytes()
+            )?;
+        }
+    }
+    if let Ok(argument) = ArgAsciiBuffer::new(ArgStrOrBytesLike::Str("abc")) {
+        println!(rt;
+            "of ASCII {}, {}, {}",
+            argument.with_ref(|b| b == b"abc".as_slice()),
+            argument.len(),
+            argument.is_empty()
+        )?;
+    }
+    Ok(())
 }
 
 /// Prints why arguments are refused.
-fn print_arguments(rt: &(impl Abort + Print), alloc: Global) {
-    let text = ArgAsciiBuffer::new(ArgStrOrBytesLike::Str("\u{e9}"));
-    show(rt, "text", &text.err());
-    let rows = two_rows(alloc, 2, 4).expect(rt, "room");
-    let buffer = PyBuffer::new(b"abcdef", rows).expect(rt, "two rows in six bytes");
-    show(rt, "rows", &ArgBytesLike::new(buffer).err());
+pub(crate) fn print_arguments(rt: &HostRuntime) -> Result<()> {
+    let alloc = rt.alloc();
+    println!(rt;
+        "text {:?}",
+        ArgAsciiBuffer::new(ArgStrOrBytesLike::Str("\u{e9}")).err()
+    )?;
+    if let Some(rows) = PyBuffer::new(b"abcdef", two_rows(alloc, 2, 4)?) {
+        println!(rt; "rows {:?}", ArgBytesLike::new(rows).err())?;
+    }
     let mut bytes = [1u8, 2, 3];
-    let row = BufferDescriptor::simple(alloc, 3, true).expect(rt, "room");
-    show(rt, "readonly", &ArgMemoryBuffer::new(&mut bytes, row).err());
-}
-
-/// Prints all worked examples of buffers that are read.
-pub(crate) fn print_all(rt: &(impl Abort + Print), alloc: Global) {
-    print_segments(rt, alloc);
-    print_pairs(rt, alloc);
-    print_positions(rt, alloc);
-    print_buffers(rt, alloc);
-    print_whole(rt, alloc);
-    print_words(rt, alloc);
-    print_owned(rt, alloc);
-    print_borrowed(rt, alloc);
-    print_ascii(rt);
-    print_arguments(rt, alloc);
+    if let Some(simple) = BufferDescriptor::simple(alloc, 3, true)?.validate() {
+        if simple.covers(bytes.len()) {
+            let refused = ArgMemoryBuffer::new(&mut bytes, simple).err();
+            println!(rt; "readonly {refused:?}")?;
+        }
+    }
+    Ok(())
 }

@@ -7,14 +7,41 @@
 mod compare;
 mod examples;
 mod plain;
-mod shown;
 mod sweep;
 mod writable;
 
-use std::io;
+use anyhow::Result;
+use sweep::Kind;
 
-fn main(rt: HostRuntime) -> io::Result<()> {
-    examples::print_all(&rt, rt.alloc());
-    writable::print_all(&rt, rt.alloc());
-    sweep::print_all(&rt)
+fn main(rt: HostRuntime) -> Result<()> {
+    examples::print_segments(&rt)?;
+    examples::print_pairs(&rt)?;
+    examples::print_positions(&rt)?;
+    examples::print_buffers(&rt)?;
+    examples::print_owned(&rt)?;
+    examples::print_borrowed(&rt)?;
+    examples::print_arguments(&rt)?;
+    writable::print_buffer(&rt)?;
+    writable::print_contiguous(&rt)?;
+    writable::print_refused(&rt)?;
+    writable::print_argument(&rt)?;
+    writable::print_argument_apart(&rt)?;
+    writable::print_argument_back(&rt)?;
+    writable::print_apart(&rt)?;
+    writable::print_given_back(&rt)?;
+    writable::print_lent(&rt)?;
+    writable::print_faults(&rt)?;
+    writable::print_refusals(&rt)?;
+    writable::print_owned(&rt)?;
+    writable::print_readonly(&rt)?;
+    writable::print_described(&rt)?;
+    for kind in [Kind::Strides, Kind::Suboffsets] {
+        for itemsize in 1..3 {
+            for dimensions in 1..4 {
+                let tally = sweep::sweep(rt.alloc(), kind, itemsize, dimensions)?;
+                tally.print(&rt, kind, itemsize, dimensions)?;
+            }
+        }
+    }
+    Ok(())
 }

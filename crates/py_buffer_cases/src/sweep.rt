@@ -7,7 +7,7 @@ use std::io;
 
 /// Which dimensions are tried: 36 of each kind.
 #[derive(Clone, Copy, Drop)]
-enum Kind {
+pub(crate) enum Kind {
     /// Shapes 0 to 3 and strides -4 to 4, without a suboffset.
     Strides,
     /// Shapes 0 to 2, strides -1 to 2 and suboffsets 0 to 2.
@@ -66,7 +66,7 @@ impl Tally {
     }
 
     /// Prints the counts.
-    fn print(
+    pub(crate) fn print(
         &self,
         rt: &HostRuntime,
         kind: Kind,
@@ -121,7 +121,7 @@ fn descriptor(
 }
 
 /// Tries all descriptors of so many dimensions and items of this many bytes.
-fn sweep(
+pub(crate) fn sweep(
     alloc: Global,
     kind: Kind,
     itemsize: usize,
@@ -144,17 +144,4 @@ fn sweep(
         }
     }
     Ok(tally)
-}
-
-/// Tries all descriptors of each kind, by items of one and two bytes and of one to three dimensions, and prints the counts.
-pub(crate) fn print_all(rt: &HostRuntime) -> io::Result<()> {
-    for kind in [Kind::Strides, Kind::Suboffsets] {
-        for itemsize in 1..3 {
-            for dimensions in 1..4 {
-                let tally = sweep(rt.alloc(), kind, itemsize, dimensions)?;
-                tally.print(rt, kind, itemsize, dimensions)?;
-            }
-        }
-    }
-    Ok(())
 }
