@@ -60,7 +60,8 @@ pub(crate) fn exactly(alloc: Global) -> Result<String> {
     let mut space = *b"----";
     let first = ended_by(stream.read_exact(&mut space));
     let came = space == *b"he--";
-    let second = ended_by(stream.read_exact(&mut space[..1]));
+    let mut one = *b"-";
+    let second = ended_by(stream.read_exact(&mut one));
     let third = ended_by(stream.read_exact(&mut space));
     let fourth = ended_by(stream.read_exact(&mut space));
     Ok(format!(in alloc;
