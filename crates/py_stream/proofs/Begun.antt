@@ -5,11 +5,12 @@ use Rattle.py_flat.specs.declared.life.Life.TheVariants as life
 use Rattle.py_flat.specs.Calls.{FileCall, Seek, Tell, FileReply, Place, Done, Refused}
 use Rattle.py_flat.specs.BinaryStep.{payload}
 use Rattle.py_raw.specs.RawStream.{WhereTold}
+use Rattle.py_raw.proofs.Telling.{keeps_same}
 use Rattle.py_stream.specs.Stream.{Stream, nothing_owed}
 use Rattle.py_stream.specs.Kinds.{is_writing, has_room, says_no_memory, is_reading, reads_on, asks_none, calls_none, by_several}
 use Rattle.py_stream.specs.Writing.{OwesUpTo, OwesBehind, Takes, PassesFront, LaysInOrder, OwesSome, OwesBoth, IsEndOf, SeekTargets, StopsAway, PassesOn, OwesNoneOfIts, Writes, HasRoom, TakesAlone, TookOwn}
-use Rattle.py_stream.proofs.Coming.{came_seen, each_seen}
-use Rattle.py_stream.specs.Answers.{Answers, AnswersWith, Leaves, IsAhead, SeeksFromEnd, EndMoves, SeeksByEnd, StaysAmong, WentTo, SeekStands, closes_again, StarvesReading, AsksNothing, IsIdle, InHand, StaysHeld, CameByReads, AsksNoMore, SparesBytes}
+use Rattle.py_stream.proofs.Coming.{came_seen, each_seen, reads_since}
+use Rattle.py_stream.specs.Answers.{Answers, AnswersWith, Leaves, IsAhead, SeeksFromEnd, EndMoves, SeeksByEnd, StaysAmong, WentTo, SeekStands, closes_again, StarvesReading, AsksNothing, IsIdle, InHand, StaysHeld, CameByReads, AsksNoMore, ReadsNoMore, SparesBytes}
 
 -- a stream whose last answer was short, or wasn't
 abbrev pub seen : Bool → Stream → Stream
@@ -107,6 +108,7 @@ module _ (short : Bool) where
       let owing : InHand before call → StaysHeld before after = λ has. let stays = answers.owing (record { lives = has.lives; buffered = has.buffered; of = has.of }) in record { owed = stays.owed; held = stays.held } in
       let brings : IsTrue (is_reading call) → IsAhead before → CameByReads 1 before after = λ reads ahead. came_seen (seen short before) before after after 1 refl refl refl refl (answers.brings reads (ahead_as before ahead)) in
       let needs : IsTrue (by_several before.buffer call) → IsAhead before → AsksNoMore before call reply after = λ reads ahead. let asks = answers.needs reads (ahead_as before ahead) in record { enough = λ whole within buffered. let idle = asks.enough whole within buffered in record { raw = idle.raw; fault = idle.fault }; whole = λ whole. each_seen (seen short before) before after after 0 0 refl refl refl refl (asks.whole whole); needed = asks.needed; last = each_seen (seen short before) before after after 1 1 refl refl refl refl asks.last } in
+      let needs_reads : IsTrue (by_several before.buffer call) → ReadsNoMore before call reply after = λ reads. reads_since before (seen short before) after (keeps_same before.raw) (λ tells. refl) refl call reply (answers.needs_reads reads) in
       let spares : before.can.writable ≡ false → before.owed ≡ nothing_owed before.place → SparesBytes before call after = λ reads none. let spared = answers.spares reads none in record { bytes = spared.bytes; written = spared.written; owed = spared.owed; still = spared.still } in
       search (rules, leaves, again, by_end, stands_seen, writes_seen, answers.refused, answers.writes)
 

@@ -1,10 +1,11 @@
 -- How far a raw came by what its reads brought, over any raw.
-use Rattle.std.proofs.Common.{Bool, inl, inr, ◌≡◌, ℕ, zero, suc, ◌+◌, ◌-◌, ◌<◌, ◌≤◌, refl, ap, arith}
+use Rattle.std.proofs.Common.{Bool, inl, inr, ⊎_elim, ◌≡◌, ℕ, zero, suc, ◌+◌, ◌-◌, ◌<◌, ◌≤◌, refl, ap, ◌∙◌, subst, arith}
+use Rattle.py_flat.specs.Calls.{FileCall, FileReply}
 use Rattle.py_raw.specs.declared.reads.Reads.{Reads}
 use Rattle.py_raw.specs.Reads.{BringInAll}
 use Rattle.py_raw.specs.RawStream.{Raw, Keeps, WhereTransfers, ReadsBring, KeepsReads}
 use Rattle.py_stream.specs.Stream.{Stream}
-use Rattle.py_stream.specs.Answers.{IsNear, IsAhead, CameByReads, EachBrings, ReadsOnce}
+use Rattle.py_stream.specs.Answers.{IsNear, IsAhead, CameByReads, EachBrings, ReadsOnce, AsksNoMore, ReadsFrom, ReadsUpTo, ReadsNoMore}
 use Rattle.py_stream.specs.Reading.{OneTransfer}
 
 -- reads that brought nothing, and none of which brought none, are none
@@ -93,3 +94,36 @@ each_but_one before after empties place transfers came = record { transfers = λ
 -- how many bytes the last read brought
 pub last_brought : (old new : Raw) (count : ℕ) → ReadsBring count old new → WhereTransfers old (new.reads.last ≡ count)
 last_brought old new count brings tells = ap (λ (reads : Reads). reads.last) (brings tells)
+
+-- Readings that read no more than they answer with.
+
+-- a reading that reads nothing
+pub reads_none : (before : Stream) (call : FileCall) (reply : FileReply) (after : Stream) → KeepsReads before.raw after.raw → ReadsNoMore before call reply after
+reads_none before call reply after none = record { whole = λ _. inl none; needed = λ _. inl none; last = inl none }
+
+came_from : (before after : Stream) (empties : ℕ) → before.place ≤ before.raw_place → CameByReads empties before after → ReadsFrom empties before after
+came_from before after empties behind came = record { from = before.raw_place; behind = behind; forth = came.forth; reads = came.reads }
+
+-- one that asks for no more, of a stream whose raw doesn't stand before its place
+pub reads_asked : (before : Stream) (call : FileCall) (reply : FileReply) (after : Stream) → before.place ≤ before.raw_place → AsksNoMore before call reply after → ReadsNoMore before call reply after
+reads_asked before call reply after behind asks = record {
+  whole = λ whole. inr (came_from before after 0 behind (asks.whole whole).came);
+  needed = λ whole. ⊎_elim (λ same. inl (λ tells. ap (λ (raw : Raw). raw.reads) same)) inr (asks.needed whole);
+  last = inr (came_from before after 1 behind asks.last.came);
+}
+
+-- one before which nothing was read, and the place stayed
+module _ (before mid after : Stream) (kept : Keeps before.raw mid.raw) (same : KeepsReads before.raw mid.raw) (still : mid.place ≡ before.place) where
+  unread_since : KeepsReads mid.raw after.raw → KeepsReads before.raw after.raw
+  unread_since none tells = none (kept.tells_transfers ∙ tells) ∙ same tells
+
+  up_to_since : (empties : ℕ) → ReadsUpTo empties mid after → ReadsUpTo empties before after
+  up_to_since empties (inl none) = inl (unread_since none)
+  up_to_since empties (inr is) = inr (record { from = is.from; behind = omega (arith, is.behind, still); forth = is.forth; reads = λ tells. subst (λ (reads : Reads). BringInAll (after.raw_place - is.from) empties reads after.raw.reads) (same tells) (is.reads (kept.tells_transfers ∙ tells)) })
+
+  pub reads_since : (call : FileCall) (reply : FileReply) → ReadsNoMore mid call reply after → ReadsNoMore before call reply after
+  reads_since call reply is = record {
+    whole = λ whole. up_to_since 0 (is.whole whole);
+    needed = λ whole. ⊎_elim (λ none. inl (unread_since none)) (λ needs. inr (λ tells. needs (kept.tells_transfers ∙ tells))) (is.needed whole);
+    last = up_to_since 1 is.last;
+  }

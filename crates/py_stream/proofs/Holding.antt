@@ -20,7 +20,7 @@ use Rattle.py_raw.proofs.Telling.{keeps_same}
 use Rattle.py_stream.specs.Stream.{Stream, size_of, file_of, nothing_owed}
 use Rattle.py_stream.specs.Kinds.{is_reading, is_single, asks_nothing, reads_on, by_several, makes_one, asks_none, has_room, says_fault, says_no_memory, says_given}
 use Rattle.py_stream.specs.Writing.{NoneAtPlace, BlocksFull, Writes}
-use Rattle.py_stream.specs.Answers.{Answers, KeepsStream, ClosedWith, parts_at_close, HasCauses, IsCounted, IsShort, LifeMoves, PlaceMoves, GivesWithin, WantsMemory, Starves, StarvesReading, StarvesFirst, AsksNothing, AtMostOne, ReadsOnce, FlushesFirst, PassesFirst, CameByReads, InHand, StaysHeld, IsAhead, GoesPast, AsksNoMore, SparesBytes, IsReplyTo, IsNear, refused_by, ahead}
+use Rattle.py_stream.specs.Answers.{Answers, KeepsStream, ClosedWith, parts_at_close, HasCauses, IsCounted, IsShort, LifeMoves, PlaceMoves, GivesWithin, WantsMemory, Starves, StarvesReading, StarvesFirst, AsksNothing, AtMostOne, ReadsOnce, FlushesFirst, PassesFirst, CameByReads, InHand, StaysHeld, IsAhead, GoesPast, AsksNoMore, ReadsNoMore, SparesBytes, IsReplyTo, IsNear, refused_by, ahead}
 use Rattle.py_stream.specs.Keeping.{IsSound}
 use Rattle.py_stream.specs.Settling.{PassesSome, LivesOn, SettleOutcome}
 use Rattle.py_stream.specs.Reading.{Reaches, ComesNext, wanted_by, reply_by}
@@ -33,7 +33,7 @@ use Rattle.py_stream.proofs.ReadingCalls.{IsReadingCall, reading_call, reading_o
 use Rattle.py_stream.proofs.ReadingSteps.{within_end}
 use Rattle.py_stream.proofs.ReadingAnswers.{accepted, works}
 use Rattle.py_stream.proofs.Refused.{nothing_blocked}
-use Rattle.py_stream.proofs.Coming.{near_seen, came_still, each_still, read_never}
+use Rattle.py_stream.proofs.Coming.{near_seen, came_still, each_still, read_never, reads_none}
 use Rattle.py_stream.proofs.SingleReading.{reads_once, asks_for, moves_by, moves_within, IsSingleCall, single_call, once_carried}
 use Rattle.py_stream.proofs.ReadingStops.{short_part, part_moves, part_within, carried}
 use Rattle.py_stream.proofs.Flat.{flat_of, failed_file}
@@ -78,6 +78,7 @@ pub record ShowsReading (before : Stream) (call : FileCall) (reply : FileReply) 
   pub in_hand : InHand before call → AsksNothing before reply after
   pub owing : InHand before call → StaysHeld before after
   pub needs : IsTrue (by_several before.buffer call) → IsAhead before → AsksNoMore before call reply after
+  pub needs_reads : IsTrue (by_several before.buffer call) → ReadsNoMore before call reply after
   pub spares : before.can.writable ≡ false → before.owed ≡ nothing_owed before.place → SparesBytes before call after
   pub writes : before.can.writable ≡ true → Writes before call reply after
   pub answer : IsReplyTo before.buffer before.can.writable call reply
@@ -156,6 +157,7 @@ stops_reading before mid call reply short may stops =
       in_hand = λ has. absurd (may.apart has);
       owing = λ has. absurd (may.apart has);
       needs = λ _ ahead. absurd (stops.behind ahead);
+      needs_reads = λ _. reads_none before call reply after passes.kept.reads;
       spares = λ reads. absurd (cc (may.writes));
       writes = λ _. passing_reads before mid call reply short may.reads may.held.live passes stops.full;
       answer = stops.answer;
@@ -288,7 +290,7 @@ held_reading before call reply place owed reads held moved is =
     let goes_past : GoesPast before after → ⊥ = λ past. stays_within before place owed (moved.sound.near held.live).before_end past in
     let writes : Writes before call reply after = held_writes before call reply place owed reads (reading_fills call reply after before.buffer before.can.writable reads is.said is.answers) moved in
     let passes_first : PassesFirst before call reply after = λ _ single some _ first. moved.bytes ∙ is.passed single some first in
-    shows_reading before after call reply reads held (grind (arith, keeps_same, came_still, each_still))
+    shows_reading before after call reply reads held (grind (arith, keeps_same, came_still, each_still, reads_none before call reply after (λ tells. refl)))
 
 -- a stream that gave some of the bytes held was moved past them
 held_moved : (before : Stream) (part : List ℕ) (after : Stream) → GivesHeld before part after → Moved before (before.place + length part) (owed_at (before.place + length part) before.owed)
@@ -414,4 +416,4 @@ reading_lacks before call reads room held =
     let is : IsReadingCall call = reading_call call reads in
     let moved : Moved before before.place before.owed = held_still before held in
     let told : WhereTold before.raw (BinaryStep (file_of before) call reply before.short false (file_of before)) = λ tells. subst (λ (cut : Bool). BinaryStep (file_of before) call reply cut false (file_of before)) (sym held.whole) (out_of_memory refl (work_reaches (file_of before) call (works before call reads (reading_suits before call reads held) held.live), starved_same (file_of before) call reads)) in
-    shows_reading before before call reply reads held (grind (arith, keeps_same, starves_alive, starves_there, gives_nothing, starves_same, came_still, each_still, held_writes, nothing_blocked))
+    shows_reading before before call reply reads held (grind (arith, keeps_same, starves_alive, starves_there, gives_nothing, starves_same, came_still, each_still, reads_none before call reply before (λ tells. refl), held_writes, nothing_blocked))

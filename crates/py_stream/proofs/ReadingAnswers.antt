@@ -1,5 +1,5 @@
 -- What an accepted reading answers, however it came out.
-use Rattle.std.proofs.Common.{◌≡◌, ◌<◌, Bool, true, false, ◌&&◌, IsTrue, None, IsSome, Err, sym, ap, ◌∙◌, subst, arith, rules}
+use Rattle.std.proofs.Common.{◌≡◌, ◌<◌, ◌≤◌, Bool, true, false, ◌&&◌, IsTrue, None, IsSome, Err, sym, ap, ◌∙◌, subst, arith, rules}
 use Rattle.py_flat.specs.declared.fault.IoFault.{IoFault}
 use Rattle.py_flat.specs.declared.life.Life.TheVariants as life
 use Rattle.py_flat.specs.Calls.{FileCall, FileReply, Refused}
@@ -11,7 +11,7 @@ use Rattle.py_raw.specs.RawStream.{StaysOpen, WhereTold}
 use Rattle.py_stream.specs.Stream.{Stream, size_of, buffering_of, file_of, nothing_owed}
 use Rattle.py_stream.specs.Kinds.{is_reading, reads_on, makes_one, has_room, asks_none, says_fault, says_no_memory, by_several}
 use Rattle.py_stream.specs.Writing.{Writes}
-use Rattle.py_stream.specs.Answers.{Answers, parts_at_close, CameByReads, IsReplyTo, IsShort, LifeMoves, PlaceMoves, GivesWithin, WantsMemory, Starves, BringsSome, StarvesReading, HasCauses, IsCounted, StarvesFirst, IsAhead, InHandOf, InHand, StaysHeld, AsksNoMore, ReadsOnce, PassesFirst, refused_by}
+use Rattle.py_stream.specs.Answers.{Answers, parts_at_close, CameByReads, IsReplyTo, IsShort, LifeMoves, PlaceMoves, GivesWithin, WantsMemory, Starves, BringsSome, StarvesReading, HasCauses, IsCounted, StarvesFirst, IsAhead, InHandOf, InHand, StaysHeld, AsksNoMore, ReadsNoMore, ReadsOnce, PassesFirst, refused_by}
 use Rattle.py_stream.specs.Reading.{KeepsReading, OneTransfer, Reaches}
 use Rattle.py_stream.proofs.Begun.{answers_whole}
 use Rattle.py_stream.proofs.Completing.{completes}
@@ -19,7 +19,7 @@ use Rattle.py_stream.proofs.Refusing.{IsPlaced, refused_alone}
 use Rattle.py_stream.specs.Moving.{Begins}
 use Rattle.py_stream.proofs.Alone.{begins_in_vain}
 use Rattle.py_stream.proofs.ReadingCalls.{IsReadingCall, reading_call}
-use Rattle.py_stream.proofs.Coming.{near_seen, came_seen}
+use Rattle.py_stream.proofs.Coming.{near_seen, came_seen, reads_asked}
 
 -- How a reading begins.
 
@@ -107,6 +107,8 @@ answers_coming before mid call reply short reads has begun comes =
       unread = λ lives tells. ap (λ (stream : Stream). stream.raw.reads) ((comes.starves wanting on).unmoved lives);
     } in
     let once : IsTrue (makes_one before.buffer call) → ReadsOnce before after = λ single. (comes.one single).once in
+    let behind : before.place ≤ before.raw_place = let near = begun.placed.near begun.live in omega (arith, near.before_end, begun.ahead) in
+    let needs_reads : IsTrue (by_several before.buffer call) → ReadsNoMore before call reply after = λ several. reads_asked before call reply after behind (comes.needs several) in
     let passes_first : PassesFirst before call reply after = λ _ _ _ _ _. goes_on.none in
     let parted : parts_at_close before call reply after ≡ true → StaysOpen before.raw after.raw = λ parts. absurd (cc (parts, is.parts before reply after)) in
     search (rules, passes_nothing, completes, near_seen, came_seen)

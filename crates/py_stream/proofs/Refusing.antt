@@ -17,7 +17,7 @@ use Rattle.py_stream.specs.Writing.{HasRoom, Writes}
 use Rattle.py_stream.specs.Answers.{Answers, LifeMoves, PlaceMoves, IsShort, IsNear, SeeksByEnd, GivesWithin, closes_again, refused_by, IsIdle, Leaves}
 use Rattle.py_raw.proofs.Telling.{keeps_same}
 use Rattle.py_stream.proofs.Refused.{is_own, leaves_all}
-use Rattle.py_stream.proofs.Coming.{near_seen, ahead_seen, came_still, each_still}
+use Rattle.py_stream.proofs.Coming.{near_seen, ahead_seen, came_still, each_still, reads_none}
 use Rattle.py_stream.proofs.Begun.{writes_whole}
 use Rattle.py_raw.specs.RawStream.{WhereTold}
 
@@ -102,6 +102,7 @@ refused_with before after call why is refuses alone own first same =
       brings = λ _ _. came_still before left 1 refl refl;
       unread = λ _ tells. refl;
       needs = λ _ _. record { enough = λ _ _ _. record { raw = refl; fault = idle.fault }; whole = λ _. each_still before left 0 0 refl refl; needed = λ _. inl refl; last = each_still before left 1 1 refl refl };
+      needs_reads = λ _. reads_none before call (Refused why) left (λ tells. refl);
       spares = λ _ none. record { bytes = λ tells. refl; written = λ tells. refl; owed = none; still = λ _. refl };
       writes = λ can. writes_whole before left call (Refused why) (writes can);
       answer = λ accepted. absurd (passes accepted);

@@ -18,11 +18,12 @@ use Rattle.py_stream.specs.Stream.{Stream, file_of, nothing_owed}
 use Rattle.py_stream.specs.Kinds.{is_reading, is_writing, reads_on, takes_space_first, makes_one, asks_none, by_several, calls_none, has_room, says_fault, says_no_memory, says_given}
 use Rattle.py_stream.specs.Writing.{HasRoom, OwesBehind, LaysTaken, Takes, PassesFront, OwesBoth, LaysFront, LaysInOrder, OwesOld, OwesNoneOfIts, TookOwn, Writes, NoneAtPlace, TakesAlone}
 use Rattle.py_stream.specs.Keeping.{KeepsOn}
-use Rattle.py_stream.specs.Answers.{Answers, KeepsStream, ClosedWith, WantsMemory, IsCounted, IsReplyTo, HasCauses, IsAhead, GoesPast, InHand, AsksNoMore, AtMostOne, ReadsOnce, PassesFirst, CameByReads, StarvesReading, StarvesFirst, SeeksByEnd, SeekStands, refused_by, closes_again, parts_at_close}
+use Rattle.py_stream.specs.Answers.{Answers, KeepsStream, ClosedWith, WantsMemory, IsCounted, IsReplyTo, HasCauses, IsAhead, GoesPast, InHand, AsksNoMore, ReadsNoMore, AtMostOne, ReadsOnce, PassesFirst, CameByReads, StarvesReading, StarvesFirst, SeeksByEnd, SeekStands, refused_by, closes_again, parts_at_close}
 use Rattle.py_stream.specs.Settling.{PassesSome, LivesOn, SettleOutcome}
 use Rattle.py_stream.proofs.Taking.{waited_then, faulted_then, answers_then, answers_still}
 use Rattle.py_stream.proofs.Flat.{flat_of}
 use Rattle.py_stream.proofs.Stopping.{gives_none}
+use Rattle.py_stream.proofs.Coming.{reads_since}
 use Rattle.py_stream.proofs.Giving.{IsGiving, is_giving}
 use Rattle.py_stream.proofs.Completing.{completes}
 use Rattle.py_stream.proofs.Showing.{not_refused}
@@ -125,6 +126,7 @@ pub record AfterSettling (before : Stream) (call : FileCall) (reply : FileReply)
   pub unread : is_reading call ≡ false → KeepsReads before.raw after.raw
   pub in_hand : InHand before call → ⊥
   pub needs : IsTrue (by_several before.buffer call) → IsAhead before → AsksNoMore before call reply after
+  pub needs_reads : IsTrue (by_several before.buffer call) → ReadsNoMore before call reply after
   pub writes : Writes before call reply after
 
 -- what an answer has in common with that of the stream in between
@@ -203,6 +205,7 @@ reading_own before mid after call reply reads is answers =
       left = λ failed tells. subst (λ (reads : Reads). Rose reads.brought after.raw.reads.brought) (kept.reads tells) ((answers.starves wanting on).left failed (kept.raw.tells_transfers ∙ tells));
     } in
     let once : IsTrue (makes_one before.buffer call) → ReadsOnce before after = λ one. once_then before mid after kept (answers.once one) in
+    let needs_reads : IsTrue (by_several before.buffer call) → ReadsNoMore before call reply after = λ several. reads_since before (settled_as before mid) after kept.raw kept.reads refl call reply (answers.needs_reads several) in
     search (rules, reading_writes)
 
 -- an answer of a reading, after all that was owed was passed on
