@@ -7,7 +7,7 @@ use Rattle.py_flat.specs.Refusals.{is_getter, is_other_getter, is_close, is_deta
 use Rattle.py_stream.specs.Stream.{Stream, buffering_of}
 use Rattle.py_stream.specs.Kinds.{is_reading, is_writing}
 use Rattle.py_stream.specs.Answers.{RefusesAlone}
-use Rattle.py_stream.proofs.Alone.{stopped}
+use Rattle.py_stream.proofs.Refusing.{stopped}
 use Rattle.py_calls.specs.declared.call.Call.{Call}
 use Rattle.py_calls.specs.declared.call.Call.TheVariants as call
 use Rattle.py_calls.specs.Calls.{file_call}

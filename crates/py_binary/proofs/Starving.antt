@@ -9,9 +9,8 @@ use Rattle.py_stream.specs.Stream.{Stream, file_of}
 use Rattle.py_stream.specs.Kinds.{calls_none}
 use Rattle.py_stream.specs.Writing.{Writes}
 use Rattle.py_stream.specs.Answers.{AnswersWith, refused_by}
-use Rattle.py_stream.proofs.Coming.{near_seen, ahead_seen, came_still, each_still}
-use Rattle.py_stream.proofs.Refused.{lays_nothing}
-use Rattle.py_stream.proofs.Stopping.{starves_alive, starves_there}
+use Rattle.py_stream.proofs.Begun.{near_seen, ahead_seen, came_still, each_still}
+use Rattle.py_stream.proofs.Refused.{lays_nothing, starves_alive, starves_there}
 use Rattle.py_raw.proofs.Telling.{keeps_same}
 use Rattle.py_binary.specs.Binary.{has_reply_room}
 use Rattle.py_binary.specs.Kinds.{IsHeld}

@@ -9,10 +9,10 @@ use Rattle.py_flat.specs.Causes.{Rose}
 use Rattle.py_flat.specs.BinaryStep.{IsFrontOf}
 use Rattle.py_raw.specs.RawStream.{WhereTold, WherePlace, WhereTransfers, NoFault, NoWait, WaitsOnce, LeavesCounts}
 use Rattle.py_stream.specs.declared.stop.Stop.TheVariants as stop
-use Rattle.py_stream.proofs.Coming.{each_seen}
+use Rattle.py_stream.proofs.Begun.{each_seen}
 use Rattle.py_stream.specs.Answers.{ahead, EachBrings, LastIsNeeded}
 use Rattle.py_stream.specs.Reading.{ComesNext, Gives, GathersEnough, WantsHeld, GatherOutcome}
-use Rattle.py_stream.proofs.ReadingSteps.{next_behind, next_parts, next_reaches, waits_once_then}
+use Rattle.py_stream.proofs.ReadingStops.{next_behind, next_parts, next_reaches, waits_once_then}
 use Rattle.py_stream.proofs.ReadingOn.{WantsOn, gathers_at_end, gathers_waiting, open_asking, gathers_ok, wants_past}
 use Rattle.py_window.specs.Window.{place_of, end_of, ahead_of, advanced}
 use Rattle.py_engine.specs.Engine.{EngineView}

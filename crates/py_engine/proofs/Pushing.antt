@@ -5,7 +5,7 @@ use Rattle.std.proofs.lemmas.Bool.{cases_lt}
 use Rattle.std.proofs.lemmas.List.{length-append, length-take, length-take-le, take_min, take_all, take-append-le, append-nil, drop-append-le, drop-drop, drop-take}
 use Rattle.py_window.specs.Window.{WindowView, IsWindow, place_of, kept_before, room_of, pasted, laid_at_cursor, without_front, pushed}
 use Rattle.py_flat.specs.Lines.{joined}
-use Rattle.py_stream.proofs.Joined.{joined_more, length-joined_parts}
+use Rattle.py_stream.proofs.Giving.{joined_more, length-joined_parts}
 use Rattle.py_window.proofs.Overlaying.{Overlays, overlays, overlaid, laid_is, laid_twice, lets_go, pushed_within, pushed_beyond}
 
 -- Letting go of bytes before the cursor, and then putting some.

@@ -9,10 +9,10 @@ use Rattle.py_stream.specs.Stream.{Stream}
 use Rattle.py_stream.specs.Writing.{OwesBehind, OwesRest, OwesOld}
 use Rattle.py_stream.specs.Taking.{Calm, WaitsAsOne, Took, TookAll, FailsTaking, Lacks, PutOutcome}
 use Rattle.py_stream.proofs.Taking.{take_behind, took_then, took_on, fails_then, fails_more, starves_then, waited_then, waited_before}
-use Rattle.py_stream.proofs.Putting.{put_then}
+use Rattle.py_stream.proofs.Giving.{put_then}
 use Rattle.py_stream.proofs.Flat.{fails_ends, took_none_ends}
 use Rattle.py_engine.specs.Passing.{FlushOutcome, HandOnOutcome, FitOutcome, StopOutcome, room_behind}
-use Rattle.py_engine.proofs.PassingOn.{flush_lacks, flush_fails}
+use Rattle.py_engine.proofs.Draining.{flush_lacks, flush_fails}
 
 -- a buffer's own waits end no call
 pub all_taken : (size : ℕ) (old new : Stream) (bytes : List ℕ) → old.buffer ≡ Some size → Took old bytes new → TookAll old bytes new

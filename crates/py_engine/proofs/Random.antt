@@ -30,11 +30,10 @@ use Rattle.py_flat.specs.ExactStep.{rest}
 use Rattle.py_lines.specs.Collecting.{HasEnough, WantsMore, EndsIn, LinesView, IsNewLines, lines_wanted, lines_collected}
 use Rattle.py_flat.specs.Lines.{joined, lines_of, until_above}
 use Rattle.py_stream.proofs.ReadingOn.{wants_past}
-use Rattle.py_stream.proofs.SingleReading.{asks_for, moves_by}
+use Rattle.py_stream.proofs.ReadingStops.{asks_for, moves_by}
 use Rattle.py_engine.proofs.SingleReading.{asks_some, moved_to_ready, answered_reads, advanced_reads, once_failed, once_unready, once_held, once_looked, once_starved}
 use Rattle.py_stream.proofs.Refusing.{refused_alone}
-use Rattle.py_stream.proofs.ReadingCalls.{reading_call, in_hand_held}
-use Rattle.py_stream.proofs.ReadingAnswers.{accepted, reading_refused}
+use Rattle.py_stream.proofs.ReadingAnswers.{reading_call, in_hand_held, accepted, reading_refused}
 use Rattle.py_stream.proofs.Holding.{asks_nothing_answers, single_reads, held_answers, held_answers_told, held_answers_once, held_peek, reading_lacks, ReadsHeld, HasToPass, reading_suits, reading_blocked, reading_failed, reading_starved}
 use Rattle.py_stream.proofs.Settled.{settled_reads}
 use Rattle.py_window.specs.Window.{WindowView, IsWindow, place_of, ahead_of, advanced, flat_over, HoldsBytes}
@@ -42,10 +41,8 @@ use Rattle.py_engine.specs.Engine.{EngineView, stream_of, Stands, IsEngine, HasS
 use Rattle.py_engine.specs.Reading.{reading_of, AnswersSized, IsReading, ReadyOutcome}
 use Rattle.py_engine.specs.Random.{GoesToRaw, AnswersFrom, WentAhead, GoesAhead, WantsPast, gave, AnswersSome, AnswersOnce, AnswersFirst, OnceOutcome, SomeOutcome}
 use Rattle.py_engine.proofs.Transfers.{bytes_ahead}
-use Rattle.py_engine.proofs.Standing.{is_placed, is_sound, owes_nothing, none_over}
-use Rattle.py_engine.proofs.Seen.{readable, same_stream}
+use Rattle.py_engine.proofs.Standing.{is_placed, is_sound, owes_nothing, none_over, readable, same_stream, begins, stands_whole, answers_from_begun}
 use Rattle.py_window.proofs.Overlaying.{pending_many}
-use Rattle.py_engine.proofs.Calls.{begins, stands_whole, answers_from_begun}
 
 -- How a reading begins.
 

@@ -32,9 +32,8 @@ use Rattle.py_engine.specs.RandomWriting.{GivesPlaced, WaitsOwing, GoesBehind, G
 use Rattle.py_engine.specs.declared.data.given.Given.{Given}
 use Rattle.py_engine.specs.declared.data.given.Given.TheVariants as gives
 use Rattle.py_engine.specs.Passing.{OwedOutcome}
-use Rattle.py_engine.proofs.Standing.{is_placed, is_sound, owes_behind}
+use Rattle.py_engine.proofs.Standing.{is_placed, is_sound, owes_behind, begins, answers_from_begun}
 use Rattle.py_engine.proofs.Draining.{none_at_cursor, none_at_place}
-use Rattle.py_engine.proofs.Calls.{begins, answers_from_begun}
 
 -- Where an engine that is read and written stands.
 

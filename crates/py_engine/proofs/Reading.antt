@@ -6,7 +6,7 @@ use Rattle.py_stream.proofs.ReadingAnswers.{Reads, ReadingBegins, reading_refuse
 use Rattle.py_stream.specs.ReadingOn.{BeginsReading}
 use Rattle.py_engine.specs.Engine.{EngineView, BeginOutcome}
 use Rattle.py_engine.specs.Reading.{reading_of, IsReading}
-use Rattle.py_engine.proofs.Seen.{placed, readable}
+use Rattle.py_engine.proofs.Standing.{placed, readable}
 use Rattle.py_engine.proofs.Transfers.{reading_whole}
 
 -- a live engine

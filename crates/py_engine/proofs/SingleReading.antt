@@ -15,7 +15,7 @@ use Rattle.py_stream.specs.Kinds.{is_single, asks_nothing}
 use Rattle.py_stream.specs.Answers.{Answers}
 use Rattle.py_stream.specs.Reading.{LeavesHeld, has_answer, is_wait}
 use Rattle.py_stream.proofs.ReadingAnswers.{Reads, answers_begun, answers_coming}
-use Rattle.py_stream.proofs.SingleReading.{asks_for, moves_by, moves_within, single_call, GivesOnce, answers_once, unready_once, faulted_once, unmoved_once}
+use Rattle.py_stream.proofs.ReadingStops.{asks_for, moves_by, moves_within, single_call, GivesOnce, answers_once, unready_once, faulted_once, unmoved_once}
 use Rattle.py_window.specs.Window.{WindowView, IsWindow, place_of, end_of, ahead_of, advanced}
 use Rattle.py_engine.specs.Engine.{EngineView, BeginOutcome}
 use Rattle.py_engine.specs.Reading.{reading_of, IsReading, KeepsEngine, Transferred, ReadyOutcome}

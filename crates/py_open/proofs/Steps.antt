@@ -44,7 +44,7 @@ use Rattle.py_binary.proofs.Leaving.{attached_on}
 use Rattle.py_open.specs.Session.{SessionFile, OfText, OfBinary, SessionView, TextSession, BinarySession, IsDetached, LeftBy, FileLeft, TextLeft, LeavesTextFile, SaysOrStarves, AnswersTextBy, StaysOpenWithText, FileStepBy, SessionStep, FileSettlesBy, Settles, file_seen, raw_of, life_of, short_of, Answers, IsInStep}
 use Rattle.py_open.specs.Run.{IsSmooth}
 use Rattle.py_open.specs.Laws.{CompletesText, CompletesFile, Completes, gives, gives_chunk_size, SettingStays, KeepsText, KeepsSettings, OnlyReads}
-use Rattle.py_stream.proofs.Closing.{closes_whole}
+use Rattle.py_stream.proofs.Refused.{closes_whole}
 
 -- What is left of a stream.
 

@@ -17,7 +17,7 @@ use Rattle.py_stream.specs.Kinds.{is_reading, is_writing, is_single, makes_one, 
 use Rattle.py_stream.specs.Writing.{OwesBehind, LaysTaken, OwesSome, PassesFront, PassedOn, OwesBoth, PassesOn, LaysInOrder, BlocksFull, TookOwn, Writes}
 use Rattle.py_stream.specs.Answers.{Answers, Leaves, ClosedWith, parts_at_close, LifeMoves, GivesWithin, AtMostOne, ReadsOnce, FlushesFirst, PassesFirst, SparesBytes, SeeksTo, SeeksFromEnd, UnlessStopped, EndMoves, SeeksByEnd, closes_again, refused_by}
 use Rattle.py_stream.specs.Buffer.{Buffer, buffer_of, taken_by, size_shown, LeavesBuffer, closes_twice, stream_shown, GivesAsked, GoesFromEnd, BufferSeeksFromEnd, BufferSeeksByEnd, BufferOwes, BufferPasses, BufferLays, BufferTakes, OwesAsItCan, is_made, AnswersAsBuffer}
-use Rattle.py_stream.proofs.Closing.{parts_not}
+use Rattle.py_stream.proofs.Refused.{parts_not}
 use Rattle.py_stream.proofs.LeftOwed.{none_or_some}
 
 -- the size that is shown is the stream's own

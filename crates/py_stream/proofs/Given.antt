@@ -22,13 +22,11 @@ use Rattle.py_stream.specs.Taking.{Took, TookAll, FailsTaking, Calm, WaitsAsOne,
 use Rattle.py_stream.proofs.Begun.{answers_whole}
 use Rattle.py_flat.specs.Lines.{joined}
 use Rattle.py_stream.specs.Moving.{EndsWithin, Begins}
-use Rattle.py_stream.proofs.Refused.{nothing_blocked}
-use Rattle.py_stream.proofs.Stopping.{says_short, fault_answers, starves_alive, starves_there, starve_answers, work_reaches}
+use Rattle.py_stream.proofs.Refused.{nothing_blocked, says_short, fault_answers, starves_alive, starves_there, starve_answers, work_reaches}
 use Rattle.py_stream.proofs.Taking.{fails_sound}
 use Rattle.py_stream.proofs.Flat.{took_ends, fails_ends, took_bytes, took_file, took_none_ends, took_none_file, failed_file, fails_bytes, lays_taken, fails_lays}
-use Rattle.py_stream.proofs.Alone.{begins_in_vain}
+use Rattle.py_stream.proofs.Refusing.{begins_in_vain, IsPlaced}
 use Rattle.py_stream.proofs.Owing.{owes_all}
-use Rattle.py_stream.proofs.Refusing.{IsPlaced}
 use Rattle.py_stream.proofs.Giving.{of_both, writing_too_far, lines_fit, MayWrite, answers_coming, accepted, works, no_tell, calm_counts, one_counts, TakesCount, taken_reply, says_all, is_taken, WaitsCount, waited_reply, is_blocked, FailsCount, is_faulted, IsPart, StepsBy}
 use Rattle.py_flat.specs.Refusals.{refusal}
 use Rattle.py_flat.specs.FlatFile.{FlatFile}

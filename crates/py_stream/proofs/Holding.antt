@@ -26,16 +26,11 @@ use Rattle.py_stream.specs.Settling.{PassesSome, LivesOn, SettleOutcome}
 use Rattle.py_stream.specs.Reading.{Reaches, ComesNext, wanted_by, reply_by}
 use Rattle.py_stream.specs.Held.{GivesHeld}
 use Rattle.py_stream.specs.Moving.{owed_at}
-use Rattle.py_stream.proofs.Completing.{completes}
+use Rattle.py_stream.proofs.Refused.{completes, fails_there, starves_alive, starves_there, work_reaches, nothing_blocked}
 use Rattle.py_stream.proofs.Refusing.{gives_nothing, refused_alone}
-use Rattle.py_stream.proofs.Stopping.{fails_there, starves_alive, starves_there, work_reaches}
-use Rattle.py_stream.proofs.ReadingCalls.{IsReadingCall, reading_call, reading_on}
-use Rattle.py_stream.proofs.ReadingSteps.{within_end}
-use Rattle.py_stream.proofs.ReadingAnswers.{accepted, works}
-use Rattle.py_stream.proofs.Refused.{nothing_blocked}
-use Rattle.py_stream.proofs.Coming.{near_seen, came_still, each_still, read_never, reads_none}
-use Rattle.py_stream.proofs.SingleReading.{reads_once, asks_for, moves_by, moves_within, IsSingleCall, single_call, once_carried}
-use Rattle.py_stream.proofs.ReadingStops.{short_part, part_moves, part_within, carried}
+use Rattle.py_stream.proofs.ReadingAnswers.{IsReadingCall, reading_call, reading_on, accepted, works}
+use Rattle.py_stream.proofs.ReadingStops.{within_end, reads_once, asks_for, moves_by, moves_within, IsSingleCall, single_call, once_carried, short_part, part_moves, part_within, carried}
+use Rattle.py_stream.proofs.Begun.{near_seen, came_still, each_still, read_never, reads_none}
 use Rattle.py_stream.proofs.Flat.{flat_of, failed_file}
 use Rattle.py_stream.proofs.PassingOn.{passing_front, passing_keeps, passing_file, passing_keeps_bytes, stays_open}
 

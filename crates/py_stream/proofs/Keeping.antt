@@ -20,9 +20,8 @@ use Rattle.py_stream.specs.Answers.{Answers, LifeMoves, PlaceMoves, refused_by}
 use Rattle.py_stream.specs.Keeping.{IsSound, KeepsOn}
 use Rattle.py_stream.specs.Held.{TakesOver, KeepsBoth, OwesHeld}
 use Rattle.py_stream.specs.Settling.{PassesSome, LivesOn, SettleOutcome}
-use Rattle.py_stream.proofs.Refused.{nothing_blocked}
+use Rattle.py_stream.proofs.Refused.{nothing_blocked, work_reaches, says_short, fails_there, fault_answers, starves_alive, starves_there, starve_answers}
 use Rattle.py_stream.proofs.Refusing.{refused_alone}
-use Rattle.py_stream.proofs.Stopping.{work_reaches, says_short, fails_there, fault_answers, starves_alive, starves_there, starve_answers}
 use Rattle.py_stream.proofs.Taking.{keeps_then}
 use Rattle.py_stream.proofs.Flat.{flat_of, file_now, failed_file}
 use Rattle.py_stream.proofs.PassingOn.{passing_keeps_bytes, passing_file}

@@ -9,7 +9,7 @@ use Rattle.py_stream.specs.LiveRaw.{is_movable}
 use Rattle.py_stream.specs.Moving.{Begins}
 use Rattle.py_stream.proofs.PassingOn.{begun}
 use Rattle.py_stream.proofs.Refusing.{IsPlaced, refused_by_ability}
-use Rattle.py_stream.proofs.Seeking.{MaySeek}
+use Rattle.py_stream.proofs.Sizing.{MaySeek}
 
 -- a seek goes on of a stream that may be moved, as it was asked once the call had begun
 pub seeks_on : (old started seen : Stream) (moves : Bool) → IsSound old → Begins old (Ok tt) started → seen ≡ started → moves ≡ is_movable seen.can → moves ≡ true → MaySeek (begun old)

@@ -25,8 +25,7 @@ use Rattle.py_stream.specs.Writing.{OwesBehind, NoneAtPlace, PassesFront, LaysFr
 use Rattle.py_stream.specs.Answers.{moves_back, parts_at_close, Answers, KeepsStream, ClosedWith, InHand, IsShort, LifeMoves, PlaceMoves, IsReplyTo, IsCounted}
 use Rattle.py_stream.specs.Taking.{Took, FailsTaking}
 use Rattle.py_stream.specs.Settling.{PassesSome, PassesJust, LivesOn, FailsBack, SettleOutcome}
-use Rattle.py_stream.proofs.Refused.{nothing_passed, nothing_blocked}
-use Rattle.py_stream.proofs.Stopping.{says_short, needs_no_end, waits_alive, waits_there, waits_with_none, waits_answer, fails_there, fault_answers, starves_alive, starves_there, starve_answers}
+use Rattle.py_stream.proofs.Refused.{nothing_passed, nothing_blocked, says_short, needs_no_end, waits_alive, waits_there, waits_with_none, waits_answer, fails_there, fault_answers, starves_alive, starves_there, starve_answers}
 use Rattle.py_stream.proofs.Taking.{keeps_then, answers_then, calm_of, waited_then, waits_once_then, faulted_then}
 use Rattle.py_stream.proofs.Flat.{flat_of, file_now}
 use Rattle.py_stream.proofs.Showing.{Asked, Accepts, Beside, beside_writing, shows_answers, passing_writes}

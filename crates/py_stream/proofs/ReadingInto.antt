@@ -21,8 +21,8 @@ use Rattle.py_stream.specs.Stream.{Stream, file_of}
 use Rattle.py_stream.specs.Answers.{Answers, EachBrings, ahead}
 use Rattle.py_stream.specs.Reading.{KeepsReading, Reaches, IsNeeded, Gives, FailsReading, FailsMoved, StarvesReading, StopOutcome, RestOutcome, wanted_by, reply_by, has_answer, answered_at, GatherOutcome}
 use Rattle.py_stream.specs.ReadingOn.{MayRead, StepsOn, StepsNone, StepFails, StarvesWith, StepOutcome, ReadsInto, FailsStarved, StarvesIn, ReadIntoOutcome, ReadsMore, ReadMoreOutcome}
-use Rattle.py_stream.proofs.Coming.{each_seen, each_then}
-use Rattle.py_stream.proofs.ReadingSteps.{more_taken, next_behind, within_end, next_reaches, same_bytes, gives_then, waits_once_then, still_tells, keeps_then, keeps_failed}
+use Rattle.py_stream.proofs.Begun.{each_seen, each_then}
+use Rattle.py_stream.proofs.ReadingStops.{more_taken, next_behind, within_end, next_reaches, same_bytes, gives_then, waits_once_then, still_tells, keeps_then, keeps_failed}
 use Rattle.py_stream.proofs.ReadingAnswers.{Reads, ReadingBegins}
 use Rattle.py_stream.proofs.ReadingOn.{none_counted, some_counted, answered_from, unready_from, WantsSize, gathers_size, refuses_size, refused_stop}
 

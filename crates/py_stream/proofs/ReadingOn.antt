@@ -18,13 +18,11 @@ use Rattle.py_stream.specs.declared.stop.Stop.{Stop}
 use Rattle.py_stream.specs.declared.stop.Stop.TheVariants as stops
 use Rattle.py_stream.specs.Stream.{Stream, file_of}
 use Rattle.py_stream.specs.Kinds.{has_room, takes_space_first, asks_none, by_several}
-use Rattle.py_stream.proofs.Coming.{each_more}
+use Rattle.py_stream.proofs.Begun.{each_more}
 use Rattle.py_stream.specs.Answers.{Answers, ahead}
 use Rattle.py_stream.specs.Reading.{LeavesHeld, ComesNext, Gives, StarvesReading, StopOutcome, RestOutcome, has_answer, answered_at, wanted_by, reply_by, GathersEnough, GathersFront, Gathers, IsOpen, ComesHeld, WantsHeld, StarvesWanting, GatherOutcome}
-use Rattle.py_stream.proofs.ReadingCalls.{reading_on, on_suits, nothing_held, in_hand_held, wanted_within, is_several}
-use Rattle.py_stream.proofs.ReadingSteps.{next_parts}
-use Rattle.py_stream.proofs.ReadingAnswers.{Reads, ReadingBegins, answers_begun}
-use Rattle.py_stream.proofs.ReadingStops.{answers_unready, several_asks, answers_faulted, unmoved, answers_failing, answers_stopped}
+use Rattle.py_stream.proofs.ReadingAnswers.{reading_on, on_suits, nothing_held, in_hand_held, wanted_within, is_several, Reads, ReadingBegins, answers_begun}
+use Rattle.py_stream.proofs.ReadingStops.{next_parts, answers_unready, several_asks, answers_faulted, unmoved, answers_failing, answers_stopped}
 use Rattle.py_flat.specs.Bytes.{left_at}
 use Rattle.py_stream.proofs.LineReadings.{all_by_several, begun as begins}
 use Rattle.py_stream.specs.ReadingOn.{BeginsReading}

@@ -1,14 +1,14 @@
 -- A call that gives or takes bytes, before which all that was owed was passed on: its answer is one of the stream as it was before.
-use Rattle.std.proofs.Common.{◌≡◌, ◌≢◌, ℕ, ◌+◌, ◌-◌, ◌≤◌, ◌⊎◌, inl, inr, max, Bool, true, false, ◌||◌, IsTrue, List, [], ◌++◌, length, take, drop, Option, None, IsSome, Ok, sym, ap, ◌∙◌, subst, arith, length-drop, rules}
+use Rattle.std.proofs.Common.{◌≡◌, ◌≢◌, ℕ, ◌+◌, ◌-◌, ◌≤◌, ◌⊎◌, inl, inr, max, Bool, true, false, ◌||◌, IsTrue, List, [], ◌++◌, length, take, drop, Option, None, IsSome, Ok, refl, sym, ap, ◌∙◌, subst, arith, length-drop, rules}
 use Rattle.std.proofs.Math.Seq.{take-nil, drop-nil, drop-append-add}
 use Rattle.std.proofs.lemmas.List.{take_all, drop_all, length-take-le}
 use Rattle.py_flat.specs.declared.life.Life.TheVariants as life
 use Rattle.py_flat.specs.Bytes.{lay}
-use Rattle.py_flat.specs.Calls.{FileCall, FileReply}
+use Rattle.py_flat.specs.Calls.{FileCall, Detach, FileReply, Done, Unwritten}
 use Rattle.py_flat.specs.FlatFile.{Abilities, FlatFile}
 use Rattle.py_flat.specs.Owed.{Owed}
 use Rattle.py_flat.specs.BinaryStep.{BinaryStep, payload}
-use Rattle.py_flat.specs.Causes.{Rose}
+use Rattle.py_flat.specs.Causes.{Rose, rose}
 use Rattle.py_raw.specs.declared.reads.Reads.{Reads}
 use Rattle.py_raw.specs.Reads.{after_read}
 use Rattle.py_raw.specs.RawStream.{Keeps, StaysOpen, KeepsReads, WhereTold, WhereTransfers, AnswersFor}
@@ -18,16 +18,15 @@ use Rattle.py_stream.specs.Stream.{Stream, file_of, nothing_owed}
 use Rattle.py_stream.specs.Kinds.{is_reading, is_writing, reads_on, takes_space_first, makes_one, asks_none, by_several, calls_none, has_room, says_fault, says_no_memory, says_given}
 use Rattle.py_stream.specs.Writing.{HasRoom, OwesBehind, LaysTaken, Takes, PassesFront, OwesBoth, LaysFront, LaysInOrder, OwesOld, OwesNoneOfIts, TookOwn, Writes, NoneAtPlace, TakesAlone}
 use Rattle.py_stream.specs.Keeping.{KeepsOn}
-use Rattle.py_stream.specs.Answers.{Answers, KeepsStream, ClosedWith, WantsMemory, IsCounted, IsReplyTo, HasCauses, IsAhead, GoesPast, InHand, AsksNoMore, ReadsNoMore, AtMostOne, ReadsOnce, PassesFirst, CameByReads, StarvesReading, StarvesFirst, SeeksByEnd, SeekStands, refused_by, closes_again, parts_at_close}
+use Rattle.py_stream.specs.Answers.{Answers, Leaves, AsksNothing, IsIdle, StaysHeld, SparesBytes, IsAnswerTo, KeepsStream, ClosedWith, WantsMemory, IsCounted, IsReplyTo, HasCauses, IsAhead, GoesPast, InHand, AsksNoMore, ReadsNoMore, AtMostOne, ReadsOnce, PassesFirst, CameByReads, StarvesReading, StarvesFirst, SeeksByEnd, SeekStands, refused_by, closes_again, parts_at_close}
 use Rattle.py_stream.specs.Settling.{PassesSome, LivesOn, SettleOutcome}
 use Rattle.py_stream.proofs.Taking.{waited_then, faulted_then, answers_then, answers_still}
 use Rattle.py_stream.proofs.Flat.{flat_of}
-use Rattle.py_stream.proofs.Stopping.{gives_none}
-use Rattle.py_stream.proofs.Coming.{reads_since}
+use Rattle.py_stream.proofs.Refused.{gives_none, completes}
+use Rattle.py_stream.proofs.Begun.{reads_since}
 use Rattle.py_stream.proofs.Giving.{IsGiving, is_giving}
-use Rattle.py_stream.proofs.Completing.{completes}
 use Rattle.py_stream.proofs.Showing.{not_refused}
-use Rattle.py_stream.proofs.ReadingCalls.{IsReadingCall, reading_call}
+use Rattle.py_stream.proofs.ReadingAnswers.{IsReadingCall, reading_call}
 use Rattle.py_stream.proofs.PassingOn.{passed_all}
 use Rattle.py_stream.proofs.Owing.{ends_at}
 
@@ -145,7 +144,15 @@ then_answers before mid after call reply moves settled answers own =
     let answer : IsReplyTo before.buffer before.can.writable call reply = answers.answer (is.accepts before mid settled.accepted) in
     let told : WhereTold before.raw (BinaryStep (file_of before) call reply after.short (says_fault reply) (file_of after)) = λ tells. subst (λ (file : FlatFile). BinaryStep file call reply after.short (says_fault reply) (file_of after)) (same_file before mid passes settled.settled_by.2 tells) (answers.told (tells_still before.raw mid.raw kept ∙ tells)) in
     let reach : IsTrue (is_reading call) → WhereTold before.raw (after.place ≤ max before.place (length (file_of before).bytes)) = λ reads tells. subst (λ (file : FlatFile). after.place ≤ max before.place (length file.bytes)) (same_file before mid passes settled.settled_by.2 tells) (answers.reach reads (tells_still before.raw mid.raw kept ∙ tells)) in
-    search (rules, not_refused, completes)
+    let again : closes_again before call ≡ true → Leaves before Done reply after = λ closes. absurd (cc (closes, is.closes before)) in
+    let nothing : IsTrue (asks_none before.buffer call) → AsksNothing before reply after = λ asks. absurd (cc (own.nothing)) in
+    let idle : IsTrue (calls_none before.buffer before.can.writable call) → IsIdle before reply after = λ keeps. absurd (cc (is.calls before.buffer before.can.writable)) in
+    let in_hand : InHand before call → AsksNothing before reply after = λ has. absurd (own.in_hand has) in
+    let owing : InHand before call → StaysHeld before after = λ has. absurd (own.in_hand has) in
+    let spares : before.can.writable ≡ false → before.owed ≡ nothing_owed before.place → SparesBytes before call after = λ reads. absurd (cc (settled.writes)) in
+    let complete : refused_by before call ≡ None → rose before.raw.waits after.raw.waits ≡ false → rose before.raw.faults after.raw.faults ≡ false → IsAnswerTo call reply × (after.short ≡ false) = λ _ calm sound. completes before.raw after.raw before.buffer before.can.writable call reply after.short causes answers.shorts answer calm sound in
+    let at_once : before.life ≡ life.Failed → call ≡ Detach → refused_by before call ≡ None → (bytes : List ℕ) × (place : Option ℕ) × (reply ≡ Unwritten bytes place) = λ failed. absurd (let wrong : life.Live ≡ life.Failed = sym settled.live ∙ failed in cc) in
+    search (rules, is.ends before reply after, is.seeks before reply after, not_refused)
 
 -- an answer of the stream in between is one of that stream, as it is seen from the first
 as_settled : (before mid after : Stream) (call : FileCall) (reply : FileReply) → SettledFor before call mid → Answers mid call reply after → Answers (settled_as before mid) call reply after

@@ -13,8 +13,7 @@ use Rattle.py_stream.specs.Kinds.{is_reading, is_writing, calls_none, makes_one,
 use Rattle.py_stream.specs.Writing.{OwesBehind, NoneAtPlace, PassesFront, LaysFront, LaysInOrder, PassesOn, BlocksFull, Writes}
 use Rattle.py_stream.specs.Answers.{Answers, KeepsStream, Leaves, ClosedWith, parts_at_close, closes_again, IsReplyTo, HasCauses, IsCounted, InHand, StaysHeld, AsksNothing, IsIdle, IsShort, LifeMoves, PlaceMoves, refused_by, SeeksByEnd, SeekStands, SparesBytes, IsNear}
 use Rattle.py_stream.specs.Keeping.{IsSound}
-use Rattle.py_stream.proofs.Completing.{completes}
-use Rattle.py_stream.proofs.Stopping.{gives_none}
+use Rattle.py_stream.proofs.Refused.{completes, gives_none}
 
 -- Kinds of calls.
 

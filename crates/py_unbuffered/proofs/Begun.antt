@@ -1,24 +1,30 @@
--- The engine with which a call begins, and what a stream without a buffer refuses by itself.
-use Rattle.std.proofs.Common.{◌≡◌, ◌∙◌, true, false, Some, Err, Ok, refl, sym, ap, arith, add-zero, ℕ, None, IsSome, Option, Result}
+-- The engine with which a call begins, what it refuses by itself, and what stays of it from step to step.
+use Rattle.std.proofs.Common.{◌≡◌, ◌∙◌, true, false, Some, Err, Ok, refl, sym, ap, arith, add-zero, ℕ, None, IsSome, Option, Result, IsTrue, Bool, not}
 use Rattle.py_flat.specs.declared.fault.IoFault.{IoFault}
 use Rattle.py_flat.specs.declared.fault.IoFault.TheVariants as fault
 use Rattle.py_flat.specs.declared.life.Life.{Life}
 use Rattle.py_flat.specs.declared.life.Life.TheVariants as life
 use Rattle.py_flat.specs.Calls.{FileCall, Close, Refused}
 use Rattle.py_flat.specs.FlatFile.{Unbuffered}
-use Rattle.py_flat.specs.Refusals.{is_getter, is_other_getter, lacks, lets_through, life_fault}
-use Rattle.py_raw.specs.RawStream.{KeepsReads}
+use Rattle.py_flat.specs.Refusals.{is_getter, is_other_getter, lacks, lets_through, life_fault, or_else, refused_if}
+use Rattle.py_raw.specs.RawStream.{KeepsReads, Raw, Keeps, AnswersFor, KeepsBytes}
 use Rattle.py_stream.specs.Answers.{Answers, IsNear}
 use Rattle.py_stream.specs.Moving.{Begins}
 use Rattle.py_stream.proofs.Refusing.{IsPlaced, refused_by_ability, refused_by_life as life_refuses}
-use Rattle.py_stream.proofs.ReadingCalls.{reading_call}
-use Rattle.py_stream.specs.Access.{is_read}
+use Rattle.py_stream.proofs.ReadingAnswers.{reading_call}
+use Rattle.py_stream.specs.Access.{is_read, can_of, is_able}
 use Rattle.py_stream.specs.Kinds.{is_reading}
 use Rattle.py_stream.specs.Stream.{Stream, file_of}
 use Rattle.py_stream.specs.ReadingOn.{BeginsReading}
 use Rattle.py_stream.specs.Keeping.{IsSound, KeepsOn}
 use Rattle.py_stream.specs.Writing.{OwesBehind}
 use Rattle.py_unbuffered.specs.Engine.{EngineView, stream_of, IsEngine, KeepsEngine, BeginOutcome}
+use Rattle.py_raw.proofs.Telling.{keeps_same}
+use Rattle.py_raw.proofs.ReadingOn.{Keeps-then}
+use Rattle.py_stream.specs.Reading.{KeepsReading}
+use Rattle.py_stream.specs.declared.access.Access.{Access}
+use Rattle.py_stream.specs.declared.access.Access.TheVariants as access
+use Rattle.py_stream.specs.Opening.{first_refusal, RefusesRaw}
 
 -- what holds of every engine
 abbrev pub Stands : EngineView → Type 0
@@ -82,3 +88,55 @@ pub reading_lacks : (old new : EngineView) → Stands old → BeginOutcome old (
 reading_lacks old new stands began other = λ call reading.
     let is = reading_call call reading in
     refused_by_ability (stream_of old) (stream_of new) call (is_placed old stands) is.getter is.other began.0 (lacks_reading (stream_of old) call reading (ap (λ (engine : EngineView). is_read engine.access) (sym began.1) ∙ other)) (ap stream_of began.1)
+
+-- Engines.
+
+-- an engine by itself
+pub keeps_self : (engine : EngineView) → IsEngine engine.raw engine.place engine.access engine.life → KeepsEngine engine engine
+keeps_self engine is = grind (arith, keeps_same)
+
+-- an engine that failed
+pub keeps_failed : (engine : EngineView) → IsEngine engine.raw engine.place engine.access engine.life → KeepsEngine engine (record engine { life = life.Failed })
+keeps_failed engine is = grind (arith, keeps_same)
+
+-- two steps, one after the other
+pub keeps_then : (old mid new : EngineView) → KeepsEngine old mid → KeepsEngine mid new → KeepsEngine old new
+keeps_then old mid new first second = grind (arith, Keeps-then)
+
+-- a raw stays able to do what the stream is opened for
+pub able_stays : (opened : Access) (old new : Raw) → Keeps old new → is_able opened None new ≡ is_able opened None old
+able_stays access.Read old new kept = kept.readable
+able_stays access.Write old new kept = kept.writable
+able_stays access.Append old new kept = kept.writable
+able_stays access.Update old new kept = rw (kept.readable, kept.writable) refl
+
+-- what a stream can do stays
+can_stays : (old new : EngineView) → KeepsEngine old new → can_of new.access new.raw.seekable ≡ can_of old.access old.raw.seekable
+can_stays old new kept = ap (λ (opened : Access). can_of opened new.raw.seekable) kept.access ∙ ap (can_of old.access) kept.raw.seekable
+
+-- a step that leaves the bytes, and answers for none, is one of a reading
+pub keeps_reading : (old new : EngineView) → KeepsEngine old new → KeepsBytes old.raw new.raw → AnswersFor 0 old.raw new.raw → KeepsReading (stream_of old) (stream_of new)
+keeps_reading old new kept bytes answered = grind (arith, can_stays, is_near)
+
+-- a raw that isn't called answers for no byte written
+pub answers_none : (old new : Raw) → new ≡ old → AnswersFor 0 old new
+answers_none old new same = λ tells. omega (arith, ap (λ (raw : Raw). raw.written) same)
+
+-- two steps of which the first answered for nothing
+pub answers_none_then : (old mid new : EngineView) (count : ℕ) → KeepsEngine old mid → AnswersFor 0 old.raw mid.raw → AnswersFor count mid.raw new.raw → AnswersFor count old.raw new.raw
+answers_none_then old mid new count kept before behind = λ tells. omega (arith, before tells, behind (kept.raw.tells_transfers ∙ tells))
+
+by_tests : (able : Raw → Bool) (appends : Bool) (raw : Raw) (why : IoFault) (closed may : Bool) → raw.closed ≡ closed → able raw ≡ may → or_else (refused_if closed fault.Closed) (or_else (refused_if (not may) fault.Unsupported) None) ≡ Some why → RefusesRaw able appends raw None why raw
+by_tests able appends raw why true may shut can by = grind arith
+by_tests able appends raw why false false shut can by = grind arith
+by_tests able appends raw why false true shut can by = let never : None ≡ Some why = by in absurd (cc)
+
+-- a raw that is closed, or isn't able
+pub refuses_first : (able : Raw → Bool) (appends : Bool) (raw : Raw) (may : Bool) (why : IoFault) → may ≡ able raw → first_refusal may raw None ≡ Some why → RefusesRaw able appends raw None why raw
+refuses_first able appends raw may why is by = by_tests able appends raw why raw.closed may refl (sym is) by
+
+-- a refusal before the raw is asked is none when out of memory
+pub lacks_none : (takes : Bool) (closed may : Bool) (why : IoFault) → or_else (refused_if closed fault.Closed) (or_else (refused_if (not may) fault.Unsupported) None) ≡ Some why → why ≡ fault.NoMemory → IsTrue takes
+lacks_none takes true may why by is = let same : Some fault.Closed ≡ Some why = by in absurd (cc)
+lacks_none takes false false why by is = let same : Some fault.Unsupported ≡ Some why = by in absurd (cc)
+lacks_none takes false true why by is = let never : None ≡ Some why = by in absurd (cc)

@@ -1,8 +1,3 @@
-pub mod Begun
-pub mod Steps
-pub mod ReadingSteps
 pub mod Reading
-pub mod Gathering
+pub mod Begun
 pub mod Putting
-pub mod Refused
-pub mod WriteAnswers

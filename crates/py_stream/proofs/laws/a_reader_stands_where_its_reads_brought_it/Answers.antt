@@ -6,7 +6,7 @@ use Rattle.py_stream.specs.Stream.{Stream, nothing_owed}
 use Rattle.py_stream.specs.Kinds.{is_reading, is_seek}
 use Rattle.py_stream.specs.Answers.{Answers, CameByReads}
 use Rattle.py_stream.specs.Laws.{AnswersEach, none_seeks}
-use Rattle.py_stream.proofs.Coming.{came_still, came_unread, came_more, came_then}
+use Rattle.py_stream.proofs.Begun.{came_still, came_unread, came_more, came_then}
 use Rattle.py_stream.proofs.laws.a_reader_stands_where_its_reads_brought_it.Goals as goal
 
 -- one call that is no seek

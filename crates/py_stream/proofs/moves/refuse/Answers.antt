@@ -1,5 +1,4 @@
-use Rattle.py_stream.proofs.Alone.{refuses_by_life, refuses_by_ability}
-use Rattle.py_stream.proofs.Refusing.{sound_placed}
+use Rattle.py_stream.proofs.Refusing.{refuses_by_life, refuses_by_ability, sound_placed}
 use Rattle.py_stream.proofs.moves.refuse.Goals as goal
 
 pub returns-in-Ok-clause-answers : goal.returns-in-Ok-clause-answers

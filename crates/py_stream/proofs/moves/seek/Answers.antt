@@ -3,11 +3,9 @@ use Rattle.std.proofs.lemmas.Result.{err_from_is_err_and}
 use Rattle.py_flat.specs.Calls.{Seek}
 use Rattle.py_stream.specs.LiveRaw.{is_movable}
 use Rattle.py_stream.specs.Moving.{TargetOutcome}
-use Rattle.py_stream.proofs.Alone.{begins_in_vain}
-use Rattle.py_stream.proofs.Refusing.{sound_placed}
-use Rattle.py_stream.proofs.Going.{seek_finds_nothing}
+use Rattle.py_stream.proofs.Refusing.{begins_in_vain, sound_placed}
+use Rattle.py_stream.proofs.Going.{seek_finds_nothing, seek_found, seek_stepped, seek_goes_on, may_go, seeking_stops, seeking_fails, seeking_arrives}
 use Rattle.py_stream.proofs.Movable.{seeks_on, seeks_not}
-use Rattle.py_stream.proofs.Seeks.{seek_found, seek_stepped, seek_goes_on, may_go, seeking_stops, seeking_fails, seeking_arrives}
 use Rattle.py_stream.proofs.moves.seek.Goals as goal
 
 pub returns-in_err-begin_call : goal.returns-in_err-begin_call

@@ -1,8 +1,7 @@
 use Rattle.std.proofs.Common.{refl}
 use Rattle.std.proofs.lemmas.Result.{err_from_is_err_and}
 use Rattle.py_flat.specs.Calls.{Tell}
-use Rattle.py_stream.proofs.Alone.{begins_in_vain}
-use Rattle.py_stream.proofs.Refusing.{sound_placed}
+use Rattle.py_stream.proofs.Refusing.{begins_in_vain, sound_placed}
 use Rattle.py_stream.proofs.moves.tell.Goals as goal
 
 pub returns-in_err-begin_call-clause-answers : goal.returns-in_err-begin_call-clause-answers

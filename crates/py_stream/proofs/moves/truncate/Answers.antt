@@ -2,8 +2,7 @@ use Rattle.std.proofs.Common.{unwrap_or, refl, sym, ◌∙◌, ap}
 use Rattle.std.proofs.lemmas.Result.{err_from_is_err_and}
 use Rattle.py_flat.specs.Calls.{Truncate}
 use Rattle.py_stream.specs.LiveRaw.{is_truncatable}
-use Rattle.py_stream.proofs.Alone.{begins_in_vain}
-use Rattle.py_stream.proofs.Refusing.{sound_placed}
+use Rattle.py_stream.proofs.Refusing.{begins_in_vain, sound_placed}
 use Rattle.py_stream.proofs.Sizing.{truncates_not, truncates_too_far, truncation_stops, truncation_fails, truncation_answers}
 use Rattle.py_stream.proofs.moves.truncate.Goals as goal
 

@@ -1,5 +1,5 @@
 use Rattle.std.proofs.Common.{arith}
-use Rattle.py_stream.proofs.Joined.{length-joined_more, length-joined_parts}
+use Rattle.py_stream.proofs.Giving.{length-joined_more, length-joined_parts}
 use Rattle.py_stream.proofs.moving.end_of_lines.Goals as goal
 
 pub returns-then-count-end : goal.returns-then-count-end

@@ -3,7 +3,7 @@ use Rattle.py_flat.specs.declared.fault.IoFault.{IoFault}
 use Rattle.py_flat.specs.Lines.{joined}
 use Rattle.py_stream.specs.Stream.{Stream}
 use Rattle.py_stream.specs.Taking.{KeepsWhatFits, PutsOutcome}
-use Rattle.py_stream.proofs.Putting.{takes_nothing, lines_stopped, lines_taken, lines_kept, lines_roomless, line_within}
+use Rattle.py_stream.proofs.Giving.{takes_nothing, lines_stopped, lines_taken, lines_kept, lines_roomless, line_within}
 use Rattle.py_stream.proofs.piecewise.take_lines.Goals as goal
 
 pub loop-line-init : goal.loop-line-init

@@ -3,8 +3,7 @@ use Rattle.py_flat.specs.Calls.{Write, Refused}
 use Rattle.py_stream.specs.Answers.{Answers}
 use Rattle.py_stream.specs.Replies.{count_reply}
 use Rattle.py_buffered_core.specs.Buffered.{seen_of}
-use Rattle.py_buffered_core.proofs.Counting.{write_takes}
-use Rattle.py_buffered_core.proofs.AsBuffered.{answers_so, unwritten, takes_none}
+use Rattle.py_buffered_core.proofs.AsBuffered.{write_takes, answers_so, unwritten, takes_none}
 use Rattle.py_buffered_core.proofs.as_buffered.BufferedBufferedStream.write.Goals as goal
 
 pub returns-then-writes-clause-answers : goal.returns-then-writes-clause-answers

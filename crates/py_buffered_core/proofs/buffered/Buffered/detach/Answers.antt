@@ -1,7 +1,7 @@
 use Rattle.std.proofs.Common.{Ok, sym, ◌∙◌, subst}
 use Rattle.std.proofs.lemmas.Result.{err_from_is_err_and}
 use Rattle.py_buffered_core.specs.Buffered.{BeginsDetach}
-use Rattle.py_buffered_core.proofs.HandingOver.{detach_fails, detach_hands_over, begins_some}
+use Rattle.py_buffered_core.proofs.AsBuffered.{detach_fails, detach_hands_over, begins_some}
 use Rattle.py_buffered_core.proofs.buffered.Buffered.detach.Goals as goal
 use Rattle.py_buffered_core.proofs.buffered.Buffered.detach.Goals.{in-Some, in-None}
 

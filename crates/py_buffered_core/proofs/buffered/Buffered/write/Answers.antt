@@ -1,5 +1,5 @@
 use Rattle.py_buffered_core.specs.Buffered.{seen_of}
-use Rattle.py_buffered_core.proofs.Counting.{write_takes}
+use Rattle.py_buffered_core.proofs.AsBuffered.{write_takes}
 use Rattle.py_buffered_core.proofs.buffered.Buffered.write.Goals as goal
 
 pub count_from-requires : goal.count_from-requires

@@ -1,7 +1,7 @@
 use Rattle.std.proofs.Common.{arith}
 use Rattle.py_engine.specs.Engine.{EngineView}
 use Rattle.py_engine.proofs.Stepping.{engine_of}
-use Rattle.py_engine.proofs.Settling.{ends_reading, ends_here}
+use Rattle.py_engine.proofs.Draining.{ends_reading, ends_here}
 use Rattle.py_engine.proofs.data.BufferedData.align.Goals as goal
 
 pub returns-then-place-self-clause-reads : goal.returns-then-place-self-clause-reads

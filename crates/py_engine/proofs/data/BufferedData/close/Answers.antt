@@ -1,7 +1,7 @@
 use Rattle.std.proofs.Common.{subst, sym, ap}
 use Rattle.std.proofs.lemmas.Result.{err_from_is_err_and}
 use Rattle.py_engine.specs.Engine.{EngineView, Stands}
-use Rattle.py_engine.proofs.Calls.{closing_stops, closes}
+use Rattle.py_engine.proofs.Standing.{closing_stops, closes}
 use Rattle.py_engine.proofs.data.BufferedData.close.Goals as goal
 
 pub returns-in_err-pass_all_to_close : goal.returns-in_err-pass_all_to_close

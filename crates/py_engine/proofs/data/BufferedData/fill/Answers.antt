@@ -2,7 +2,7 @@ use Rattle.std.proofs.Common.{ℕ, subst, sym, ap, ◌∙◌}
 use Rattle.py_engine.specs.Engine.{EngineView}
 use Rattle.py_engine.specs.Reading.{IsReading, FillsOutcome}
 use Rattle.py_engine.proofs.Stepping.{engine_of}
-use Rattle.py_engine.proofs.Filling.{fills_so}
+use Rattle.py_engine.proofs.Transfers.{fills_so}
 use Rattle.py_engine.proofs.data.BufferedData.fill.Goals as goal
 
 pub returns : goal.returns

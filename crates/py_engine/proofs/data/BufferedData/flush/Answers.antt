@@ -1,10 +1,9 @@
 use Rattle.std.proofs.Common.{subst, Err, refl, sym, ap}
 use Rattle.std.proofs.lemmas.Result.{err_from_is_err_and}
 use Rattle.py_flat.specs.Calls.{Flush}
-use Rattle.py_stream.proofs.Alone.{begins_in_vain}
+use Rattle.py_stream.proofs.Refusing.{begins_in_vain}
 use Rattle.py_engine.specs.Engine.{EngineView, stream_of, Stands}
-use Rattle.py_engine.proofs.Standing.{is_placed}
-use Rattle.py_engine.proofs.Calls.{begins, flushes}
+use Rattle.py_engine.proofs.Standing.{is_placed, begins, flushes}
 use Rattle.py_engine.proofs.data.BufferedData.flush.Goals as goal
 
 pub returns-in_err-begin : goal.returns-in_err-begin

@@ -3,9 +3,8 @@ use Rattle.py_flat.specs.declared.fault.IoFault.{IoFault}
 use Rattle.py_engine.specs.declared.data.passing_on.Passed.{Passed}
 use Rattle.py_engine.specs.Engine.{stream_of, Stands}
 use Rattle.py_engine.proofs.Standing.{is_sound}
-use Rattle.py_engine.proofs.Draining.{none_at_place}
+use Rattle.py_engine.proofs.Draining.{none_at_place, passes_none, passes_more, passes_waiting, passes_refused}
 use Rattle.py_engine.specs.Passing.{FlushOutcome}
-use Rattle.py_engine.proofs.PassingOn.{passes_none, passes_more, passes_waiting, passes_refused}
 use Rattle.py_engine.proofs.data.BufferedData.flush_pending.Goals as goal
 
 pub returns-in_err-drain-clause-outcome : goal.returns-in_err-drain-clause-outcome

@@ -1,7 +1,7 @@
 use Rattle.std.proofs.Common.{◌≡◌, length}
 use Rattle.py_engine.specs.Engine.{stream_of, IsBehind}
 use Rattle.py_window.specs.Window.{pending_of}
-use Rattle.py_engine.proofs.PassingOn.{PassesSoFar}
+use Rattle.py_engine.proofs.Draining.{PassesSoFar}
 use Rattle.py_engine.proofs.data.BufferedData.flush_pending.Given as goal
 
 -- no wait was asked for yet, and what the stream is opened for is as it was

@@ -3,7 +3,7 @@ use Rattle.std.proofs.lemmas.Result.{err_from_is_err_and}
 use Rattle.py_stream.specs.Access.{is_written}
 use Rattle.py_stream.specs.Settling.{SettleOutcome}
 use Rattle.py_engine.specs.Engine.{stream_of, Stands}
-use Rattle.py_engine.proofs.Settling.{owed_not_here, settles_by_here}
+use Rattle.py_engine.proofs.Draining.{owed_not_here, settles_by_here}
 use Rattle.py_engine.proofs.RandomWriting.{goes_on_behind, goes_refused}
 use Rattle.py_engine.proofs.data.BufferedData.go_behind.Goals as goal
 

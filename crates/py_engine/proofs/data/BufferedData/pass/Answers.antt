@@ -2,7 +2,7 @@ use Rattle.std.proofs.Common.{ℕ, subst, sym, ap, ◌∙◌}
 use Rattle.py_engine.specs.Engine.{EngineView}
 use Rattle.py_engine.specs.Reading.{IsReading, PassesOutcome}
 use Rattle.py_engine.proofs.Stepping.{engine_of}
-use Rattle.py_engine.proofs.Filling.{passes_so}
+use Rattle.py_engine.proofs.Transfers.{passes_so}
 use Rattle.py_engine.proofs.data.BufferedData.pass.Goals as goal
 
 pub returns-clause-outcome : goal.returns-clause-outcome

@@ -1,7 +1,7 @@
 use Rattle.std.proofs.Common.{◌≡◌, true, sym, subst, ap, ◌∙◌}
 use Rattle.py_stream.specs.Access.{is_written}
 use Rattle.py_engine.specs.Engine.{EngineView, stream_of, Stands}
-use Rattle.py_engine.proofs.Settling.{settles_by_here, passes_all}
+use Rattle.py_engine.proofs.Draining.{settles_by_here, passes_all}
 use Rattle.py_engine.proofs.data.BufferedData.pass_all.Goals as goal
 
 pub returns-clause-outcome : goal.returns-clause-outcome

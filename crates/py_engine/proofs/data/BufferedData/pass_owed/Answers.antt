@@ -3,7 +3,7 @@ use Rattle.std.proofs.lemmas.Result.{err_from_is_err_and}
 use Rattle.py_stream.specs.Moving.{MovesRaw}
 use Rattle.py_engine.specs.Engine.{EngineView, stream_of, Stands}
 use Rattle.py_window.specs.Window.{pending_of}
-use Rattle.py_engine.proofs.Settling.{stays_itself, settles_nothing, owed_moved, owed_unmoved}
+use Rattle.py_engine.proofs.Draining.{stays_itself, settles_nothing, owed_moved, owed_unmoved}
 use Rattle.py_engine.proofs.data.BufferedData.pass_owed.Goals as goal
 
 pub returns-then-is_settled-clause-outcome : goal.returns-then-is_settled-clause-outcome

@@ -5,7 +5,7 @@ use Rattle.py_stream.specs.Settling.{SettleOutcome}
 use Rattle.py_engine.specs.Engine.{EngineView, stream_of}
 use Rattle.py_engine.specs.Passing.{OwedOutcome}
 use Rattle.py_engine.specs.declared.data.passing_on.Passed.TheVariants as passing
-use Rattle.py_engine.proofs.Settling.{owed_refused}
+use Rattle.py_engine.proofs.Draining.{owed_refused}
 use Rattle.py_engine.proofs.data.BufferedData.pass_pending.Goals as goal
 
 pub returns-in_err-pass_owed-clause-outcome : goal.returns-in_err-pass_owed-clause-outcome

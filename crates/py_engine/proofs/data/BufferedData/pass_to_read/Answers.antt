@@ -1,5 +1,5 @@
 use Rattle.std.proofs.Common.{◌∙◌}
-use Rattle.py_engine.proofs.Settling.{settles_by_aligning}
+use Rattle.py_engine.proofs.Draining.{settles_by_aligning}
 use Rattle.py_engine.proofs.data.BufferedData.pass_to_read.Goals as goal
 
 pub returns-clause-outcome : goal.returns-clause-outcome

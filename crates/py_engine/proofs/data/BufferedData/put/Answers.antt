@@ -7,7 +7,7 @@ use Rattle.py_stream.proofs.PassingOn.{just_took}
 use Rattle.py_engine.specs.Engine.{stream_of, Stands}
 use Rattle.py_engine.specs.Passing.{FlushOutcome}
 use Rattle.py_engine.proofs.Standing.{owes_behind}
-use Rattle.py_engine.proofs.PassingOn.{flush_took}
+use Rattle.py_engine.proofs.Draining.{flush_took}
 use Rattle.py_engine.proofs.Putting.{all_taken, put_behind, fits_then, flush_stops, stopped}
 use Rattle.py_engine.proofs.data.BufferedData.put.Goals as goal
 

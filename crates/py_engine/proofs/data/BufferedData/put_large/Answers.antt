@@ -3,7 +3,7 @@ use Rattle.std.proofs.lemmas.List.{length-drop, take_rest}
 use Rattle.py_flat.specs.declared.fault.IoFault.{IoFault}
 use Rattle.py_stream.specs.Stream.{Stream}
 use Rattle.py_stream.specs.Taking.{Took, TookAll, PutOutcome}
-use Rattle.py_stream.proofs.Putting.{all_of, takes_more, takes_then}
+use Rattle.py_stream.proofs.Giving.{all_of, takes_more, takes_then}
 use Rattle.py_engine.specs.Engine.{stream_of}
 use Rattle.py_engine.specs.Passing.{HandOnOutcome, FitOutcome}
 use Rattle.py_engine.proofs.Putting.{all_taken, waits_handing_on, fits_then, hand_on_stops, stopped}

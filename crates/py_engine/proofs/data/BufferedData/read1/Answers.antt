@@ -6,7 +6,7 @@ use Rattle.py_stream.specs.Kinds.{asks_nothing}
 use Rattle.py_engine.specs.Engine.{EngineView, Stands, stream_of}
 use Rattle.py_engine.specs.Random.{AnswersOnce, gave}
 use Rattle.py_engine.proofs.SingleReading.{asks_some}
-use Rattle.py_engine.proofs.Calls.{answers_from_begun}
+use Rattle.py_engine.proofs.Standing.{answers_from_begun}
 use Rattle.py_engine.proofs.Random.{begins_not}
 use Rattle.py_engine.proofs.data.BufferedData.read1.Goals as goal
 

@@ -2,8 +2,7 @@ use Rattle.std.proofs.Common.{arith, Ok, ◌<◌, length, subst}
 use Rattle.py_stream.specs.ReadingOn.{StepOutcome}
 use Rattle.py_engine.specs.Engine.{EngineView}
 use Rattle.py_engine.specs.Reading.{reading_of, stepped}
-use Rattle.py_engine.proofs.Transfers.{made_advanced}
-use Rattle.py_engine.proofs.ReadingSteps.{window_on, window_full}
+use Rattle.py_engine.proofs.Transfers.{made_advanced, window_on, window_full}
 use Rattle.py_engine.proofs.data.BufferedData.read_by_window.Goals.{then-count-rest, else-count-rest}
 use Rattle.py_engine.proofs.data.BufferedData.read_by_window.Goals as goal
 

@@ -7,7 +7,7 @@ use Rattle.py_window.specs.Window.{ahead_of}
 use Rattle.py_engine.specs.Engine.{Stands, stream_of}
 use Rattle.py_engine.specs.Random.{AnswersSome, gave}
 use Rattle.py_engine.proofs.SingleReading.{asks_some, copied}
-use Rattle.py_engine.proofs.Calls.{answers_from_begun}
+use Rattle.py_engine.proofs.Standing.{answers_from_begun}
 use Rattle.py_engine.proofs.Random.{begins_not, none_asked, some_stops}
 use Rattle.py_engine.proofs.data.BufferedData.readinto1.Goals as goal
 

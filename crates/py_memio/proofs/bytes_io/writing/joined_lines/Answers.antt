@@ -1,6 +1,6 @@
 use Rattle.std.proofs.Common.{ℕ, List, ◌++◌, take, ap, sym, ◌∙◌, arith}
 use Rattle.py_flat.specs.Lines.{joined}
-use Rattle.py_stream.proofs.Joined.{joined_more}
+use Rattle.py_stream.proofs.Giving.{joined_more}
 use Rattle.py_memio.proofs.bytes_io.writing.joined_lines.Goals as goal
 
 pub loop-line-preserved : goal.loop-line-preserved

@@ -1,5 +1,5 @@
 use Rattle.std.proofs.Common.{refl, subst}
-use Rattle.py_stream.proofs.Flushing.{flush_answers}
+use Rattle.py_stream.proofs.Shutting.{flush_answers}
 use Rattle.py_unbuffered.specs.Engine.{stream_of}
 use Rattle.py_unbuffered.proofs.Begun.{Stands, is_placed, begins}
 use Rattle.py_unbuffered.proofs.data.UnbufferedData.flush.Goals as goal

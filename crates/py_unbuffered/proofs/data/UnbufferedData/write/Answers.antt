@@ -6,7 +6,7 @@ use Rattle.py_stream.specs.Answers.{Answers}
 use Rattle.py_stream.specs.Replies.{taken_reply}
 use Rattle.py_stream.proofs.Given.{writing_past}
 use Rattle.py_unbuffered.specs.Engine.{EngineView, stream_of}
-use Rattle.py_unbuffered.proofs.WriteAnswers.{write_fails, write_answers}
+use Rattle.py_unbuffered.proofs.Putting.{write_fails, write_answers}
 use Rattle.py_unbuffered.proofs.data.UnbufferedData.write.Goals as goal
 
 pub returns-in_err-begin_writing : goal.returns-in_err-begin_writing

@@ -8,10 +8,9 @@ use Rattle.py_engine.specs.Engine.{EngineView}
 use Rattle.py_engine.specs.Reading.{reading_of, IsReading, Fills, UsesUp, IsLast}
 use Rattle.py_stream.specs.Reading.{GatherOutcome}
 use Rattle.py_lines.specs.Collecting.{HasEnough, WantsMore}
-use Rattle.py_engine.proofs.Transfers.{made_advanced}
+use Rattle.py_engine.proofs.Transfers.{made_advanced, stands_advanced}
 use Rattle.py_engine.proofs.Gathering.{stops_enough, goes_on, moved_some, starves_so_far, fails_so_far, stops_at_end, stops_waiting}
 use Rattle.py_engine.proofs.Stepping.{engine_of}
-use Rattle.py_engine.proofs.Filling.{stands_advanced}
 use Rattle.py_engine.proofs.data.gathering.BufferedDataReadsOn.gather.Goals as goal
 
 pub returns-in-Ok-Enough-clause-outcome : goal.returns-in-Ok-Enough-clause-outcome

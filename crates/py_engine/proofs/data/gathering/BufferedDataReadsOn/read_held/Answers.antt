@@ -3,8 +3,7 @@ use Rattle.py_stream.specs.declared.stop.Stop.TheVariants as stop
 use Rattle.py_stream.specs.ReadingOn.{ReadsInto}
 use Rattle.py_engine.specs.Engine.{EngineView}
 use Rattle.py_engine.specs.Reading.{reading_of}
-use Rattle.py_engine.proofs.Transfers.{made_advanced}
-use Rattle.py_engine.proofs.ReadingSteps.{holds_less, held_enough}
+use Rattle.py_engine.proofs.Transfers.{made_advanced, holds_less, held_enough}
 use Rattle.py_engine.proofs.data.gathering.BufferedDataReadsOn.read_held.Goals as goal
 
 pub returns-then-held-buffer-clause-outcome : goal.returns-then-held-buffer-clause-outcome

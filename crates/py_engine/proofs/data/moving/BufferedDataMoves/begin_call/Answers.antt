@@ -1,7 +1,6 @@
 use Rattle.std.proofs.Common.{subst}
 use Rattle.py_engine.specs.Engine.{Stands}
-use Rattle.py_engine.proofs.Standing.{is_sound}
-use Rattle.py_engine.proofs.Calls.{begins, owes_by}
+use Rattle.py_engine.proofs.Standing.{is_sound, begins, owes_by}
 use Rattle.py_engine.proofs.data.moving.BufferedDataMoves.begin_call.Goals as goal
 
 pub returns-clause-begins : goal.returns-clause-begins

@@ -1,5 +1,5 @@
 use Rattle.std.proofs.Common.{refl}
-use Rattle.py_engine.proofs.Calls.{settles_by, settles_bare}
+use Rattle.py_engine.proofs.Standing.{settles_by, settles_bare}
 use Rattle.py_engine.proofs.data.moving.BufferedDataMoves.settle.Goals as goal
 
 pub returns-clause-settles : goal.returns-clause-settles

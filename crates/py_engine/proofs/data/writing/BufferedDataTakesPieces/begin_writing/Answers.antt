@@ -1,6 +1,6 @@
 use Rattle.std.proofs.Common.{subst}
 use Rattle.py_engine.specs.Engine.{Stands}
-use Rattle.py_engine.proofs.Calls.{begins_writing}
+use Rattle.py_engine.proofs.Standing.{begins_writing}
 use Rattle.py_engine.proofs.data.writing.BufferedDataTakesPieces.begin_writing.Goals as goal
 
 pub returns-clause-begins : goal.returns-clause-begins

@@ -5,7 +5,7 @@ use Rattle.py_stream.specs.declared.stop.Stop.{Stop}
 use Rattle.py_stream.specs.Reading.{GatherOutcome}
 use Rattle.py_unbuffered.specs.Engine.{stream_of, Brings, Waits}
 use Rattle.py_unbuffered.proofs.Begun.{Stands}
-use Rattle.py_unbuffered.proofs.Gathering.{gathered_none, gather_ends, gather_waits, gather_refused, gathered_more, gather_enough, gather_starves}
+use Rattle.py_unbuffered.proofs.Reading.{gathered_none, gather_ends, gather_waits, gather_refused, gathered_more, gather_enough, gather_starves}
 use Rattle.py_unbuffered.proofs.data.gathering.UnbufferedDataReadsOn.gather.Goals as goal
 
 pub loop-moved-init : goal.loop-moved-init

@@ -1,6 +1,6 @@
 use Rattle.std.proofs.Common.{◌≡◌, ◌-◌, ℕ, List}
 use Rattle.py_flat.specs.Limits.{greatest_place}
-use Rattle.py_unbuffered.proofs.Gathering.{GatheredTo}
+use Rattle.py_unbuffered.proofs.Reading.{GatheredTo}
 use Rattle.py_unbuffered.proofs.data.gathering.UnbufferedDataReadsOn.gather.Given as goal
 
 -- all that came was collected, and the collector wants what it wanted

@@ -3,7 +3,7 @@ use Rattle.std.proofs.lemmas.List.{take_all, length-drop}
 use Rattle.py_flat.specs.declared.fault.IoFault.{IoFault}
 use Rattle.py_flat.specs.FlatFile.{Abilities}
 use Rattle.py_stream.specs.Taking.{TookAll, PutsOutcome}
-use Rattle.py_stream.proofs.Putting.{takes_nothing, takes_more, put_rest, rest_within}
+use Rattle.py_stream.proofs.Giving.{takes_nothing, takes_more, put_rest, rest_within}
 use Rattle.py_unbuffered.specs.Engine.{EngineView, stream_of, Waits, PutOutcome}
 use Rattle.py_unbuffered.proofs.Begun.{Stands, is_sound, owes_behind}
 use Rattle.py_stream.proofs.Pieces.{some_taken}
