@@ -1,5 +1,5 @@
 -- The bytes of a text by the writing rule, cut at its first LF.
-use Rattle.std.proofs.Common.{◌≡◌, ◌⊎◌, inl, inr, ℕ, ◌+◌, ◌≤◌, Result, Ok, Err, OnErr, Bool, true, false, ◌||◌, nat_eq, if◌then◌else◌, List, [], ◌∷◌, ◌++◌, length as len, take, refl, sym, ap, subst, ◌∙◌, arith, append-nil, append_assoc}
+use Rattle.std.proofs.Common.{◌≡◌, ◌⊎◌, inl, inr, ℕ, ◌+◌, ◌*◌, ◌≤◌, Result, Ok, Err, OnErr, Bool, true, false, ◌||◌, nat_eq, if◌then◌else◌, List, [], ◌∷◌, ◌++◌, length as len, take, refl, sym, ap, subst, ◌∙◌, arith, append-nil, append_assoc}
 use Rattle.std.specs.Char.{encode_utf8}
 use Rattle.std.specs.List.{list_any}
 use Rattle.std.specs.Str.{chars}
@@ -65,6 +65,32 @@ ended-long coder newline text run true left cut is = (
       ∙ ap (λ (n : ℕ). len (each_encoded coder run) + n) (length-append (each_encoded coder (written_end newline)) (each_written coder newline left))),
   omega (arith, ap len cut.whole, length-append run (lf ∷ left)),
 )
+
+-- a CR has as many bytes as an LF
+cr-as-long : (handler : Handler) (encoding : Encoding) → len (character_bytes handler encoding cr) ≡ len (character_bytes handler encoding lf)
+cr-as-long handler Utf8 = refl
+cr-as-long handler Latin1 = refl
+cr-as-long handler Ascii = refl
+cr-as-long handler Utf16Le = refl
+cr-as-long handler Utf16Be = refl
+
+-- no line end has more than twice the bytes of an LF
+end-twice : (coder : Coder) (newline : Newlines) → len (each_encoded coder (written_end newline)) ≤ 2 * len (character_bytes coder.errors coder.encoding lf)
+end-twice coder rule.Universal = omega (arith, length-append (character_bytes coder.errors coder.encoding lf) [])
+end-twice coder rule.Passthrough = omega (arith, length-append (character_bytes coder.errors coder.encoding lf) [])
+end-twice coder rule.Lf = omega (arith, length-append (character_bytes coder.errors coder.encoding lf) [])
+end-twice coder rule.Cr = omega (arith, length-append (character_bytes coder.errors coder.encoding cr) [], cr-as-long coder.errors coder.encoding)
+end-twice coder rule.Crlf = omega (arith, length-append (character_bytes coder.errors coder.encoding cr) (character_bytes coder.errors coder.encoding lf ++ []), length-append (character_bytes coder.errors coder.encoding lf) [], cr-as-long coder.errors coder.encoding)
+
+-- no character comes to more than twice its bytes
+one-twice : (coder : Coder) (newline : Newlines) (c : ℕ) (is_lf : Bool) → nat_eq c lf ≡ is_lf → len (each_spelled (character_bytes coder.errors coder.encoding) (if is_lf then written_end newline else c ∷ [])) ≤ 2 * len (character_bytes coder.errors coder.encoding c)
+one-twice coder newline c false is = omega (arith, ap len (other-stays coder newline c false refl))
+one-twice coder newline c true is = omega (arith, end-twice coder newline, ap (λ (n : ℕ). len (character_bytes coder.errors coder.encoding n)) (eqb-true c lf is))
+
+-- nor does a text
+pub text-twice : (coder : Coder) (newline : Newlines) (text : List ℕ) → len (each_written coder newline text) ≤ 2 * len (each_encoded coder text)
+text-twice coder newline [] = omega arith
+text-twice coder newline (c ∷ text) = omega (arith, length-append (written_character coder newline c) (each_written coder newline text), length-append (character_bytes coder.errors coder.encoding c) (each_encoded coder text), one-twice coder newline c (nat_eq c lf) refl, text-twice coder newline text)
 
 -- a line end is of one or two characters
 pub end-few : (newline : Newlines) → len (written_end newline) ≤ 2

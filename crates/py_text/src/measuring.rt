@@ -1,4 +1,4 @@
-ghost use Rattle.std.specs.Prelude.{◌≡◌, None, Some, length, chars, IfOk, IfErr, MatchOption};
+ghost use Rattle.std.specs.Prelude.{◌≡◌, ◌≤◌, ◌⊎◌, None, Some, length, chars, IfOk, IfErr, MatchOption};
 ghost use Rattle.py_plain.specs.Encode.{refused_run, encode_treatment, encoded};
 ghost use Rattle.py_plain_text.specs.TextWriting.{written_bytes, written_refusal};
 ghost use Rattle.py_plain_text.specs.TextRefusals.{encode_error};
@@ -6,7 +6,7 @@ ghost use Rattle.py_text.specs.EachWritten.{IsWhole};
 ghost use Rattle.py_text.specs.Written.{settings_of};
 
 use crate::Coder;
-use crate::sizes::written_length;
+use crate::sizes::length_within;
 use py_blocks::count_starts;
 use py_codec::{HandlerRef, NoHandler, first_refusal};
 use py_flat::IoFault;
@@ -17,7 +17,7 @@ use py_plain::{Encoding, Newlines};
 pub struct WrittenSize {
     /// How many characters the text has.
     pub chars: usize,
-    /// How many bytes it is written as.
+    /// How many bytes it is written as; of a short text, where there is room enough, at most so many.
     pub bytes: u128,
 }
 
@@ -45,14 +45,21 @@ fn refusal(coder: Coder, text: &str) -> Option<IoFault>
     }
 }
 
-/// How many characters a text has, and how many bytes it is written as by a newline rule and a coder. It takes no memory.
+/// How many characters a text has, and how many bytes it is written as by a newline rule and a coder, where these are more than the
+/// room for them; else at most how many. It takes no memory.
 ///
 /// `UnicodeEncodeError`: the handler refuses a run of characters without bytes; it is the first such run, counted in
 /// characters of the text.
-pub fn written_size(coder: Coder, newline: Newlines, text: &str) -> Result<WrittenSize, IoFault>
+pub fn written_size(
+    coder: Coder,
+    newline: Newlines,
+    text: &str,
+    room: u128,
+) -> Result<WrittenSize, IoFault>
     ensures whole { IfOk result (λ size. written_refusal (settings_of coder newline) (chars text.now) ≡ None) }
     ensures characters { IfOk result (λ size. size.chars ≡ length (chars text.now)) }
-    ensures bytes { IfOk result (λ size. size.bytes ≡ length (written_bytes (settings_of coder newline) (chars text.now))) }
+    ensures most { IfOk result (λ size. length (written_bytes (settings_of coder newline) (chars text.now)) ≤ size.bytes) }
+    ensures bytes { IfOk result (λ size. (size.bytes ≤ room) ⊎ (size.bytes ≡ length (written_bytes (settings_of coder newline) (chars text.now)))) }
     ensures err { IfErr result (λ why. encode_error (written_refusal (settings_of coder newline) (chars text.now)) ≡ Some why) }
 {
     if let Some(why) = refusal(coder, text) {
@@ -60,6 +67,6 @@ pub fn written_size(coder: Coder, newline: Newlines, text: &str) -> Result<Writt
     }
     Ok(WrittenSize {
         chars: characters(text),
-        bytes: written_length(coder, newline, text),
+        bytes: length_within(coder, newline, text, room),
     })
 }

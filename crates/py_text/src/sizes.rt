@@ -1,5 +1,5 @@
 //! How many bytes texts and characters come to where nothing is refused.
-ghost use Rattle.std.specs.Prelude.{◌≡◌, ◌*◌, ◌≤◌, decimal, length, chars};
+ghost use Rattle.std.specs.Prelude.{◌≡◌, ◌*◌, ◌≤◌, ◌⊎◌, decimal, length, chars};
 ghost use Rattle.py_plain.specs.Escapes.{backslash_escape};
 ghost use Rattle.py_text.specs.EachWritten.{substitute, character_bytes, each_encoded, each_written};
 
@@ -112,7 +112,7 @@ fn length_of_lines(coder: Coder, newline: Newlines, text: &str) -> u128
 }
 
 /// How many bytes a text comes to by the writing rule. Only the rule of CR LF makes it longer.
-pub(crate) fn written_length(coder: Coder, newline: Newlines, text: &str) -> u128
+fn written_length(coder: Coder, newline: Newlines, text: &str) -> u128
     ensures { result ≡ length (each_written coder newline (chars text.now)) }
 {
     match newline {
@@ -121,4 +121,20 @@ pub(crate) fn written_length(coder: Coder, newline: Newlines, text: &str) -> u12
             length_as_is(coder, text)
         }
     }
+}
+
+/// Up to how many bytes of UTF-8 a text is short, so that space for twice as many costs little.
+const SHORT: usize = 4096;
+
+/// How many bytes a text comes to by the writing rule, where these are more than the room for them; else at most how many. An LF becomes
+/// two characters at most: of a short text that stays in its bytes none is looked for, where there is room for twice as many.
+pub(crate) fn length_within(coder: Coder, newline: Newlines, text: &str, room: u128) -> u128
+    ensures most { length (each_written coder newline (chars text.now)) ≤ result }
+    ensures bytes { (result ≤ room) ⊎ (result ≡ length (each_written coder newline (chars text.now))) }
+{
+    let twice = text.len() as u128 * 2;
+    if text.len() <= SHORT && twice <= room && stays(coder, text) {
+        return twice;
+    }
+    written_length(coder, newline, text)
 }

@@ -7,6 +7,7 @@ mod lines;
 mod making;
 mod reading;
 mod shown;
+mod starving;
 mod stopping;
 mod writers;
 mod writing;
@@ -39,6 +40,7 @@ fn main(rt: HostRuntime) -> Result<()> {
     print(&rt, writing::written(alloc))?;
     print(&rt, writing::read_in_part(alloc))?;
     print(&rt, writing::by_lines(alloc))?;
+    print(&rt, starving::starves(alloc))?;
     print(&rt, writers::to_a_string(alloc))?;
     print(&rt, writers::to_a_sink(alloc))?;
     print(&rt, writers::to_a_text(alloc))

@@ -1,5 +1,5 @@
 //! The text under a user's: it reads, and keeps what was written until its buffer takes it. Its calls are for a live text.
-ghost use Rattle.std.specs.Prelude.{◌≡◌, ◌≢◌, ◌+◌, ◌-◌, ◌<◌, ◌≤◌, ◌&&◌, not, Bool, true, false, None, [], ◌++◌, length, take, chars, vec_len, vec_capacity, OnOk, OnErr, IfOk, IfErr, pos};
+ghost use Rattle.std.specs.Prelude.{◌≡◌, ◌≢◌, ◌+◌, ◌-◌, ◌<◌, ◌≤◌, ◌⊎◌, ◌&&◌, not, Bool, true, false, None, [], ◌++◌, length, take, chars, vec_len, vec_capacity, OnOk, OnErr, IfOk, IfErr, pos};
 ghost use Rattle.py_flat.specs.Limits.{greatest_place};
 ghost use Rattle.py_plain_text.specs.Cookie.{is_buildable};
 ghost use Rattle.py_plain_text.specs.CookieView.{cookie_shown};
@@ -499,6 +499,15 @@ impl<B: BufferedStream> WrittenText<B> {
         closed
     }
 
+    /// How many bytes more there can be behind the text's place.
+    fn room(&self) -> u128
+        ensures { (place_now self.now).at + result ≡ greatest_place }
+    {
+        // What holds of every text is known from here on.
+        let _ = &self.life;
+        u128::from(GREATEST_PLACE) - (self.text.at() as u128 + self.pending.len() as u128)
+    }
+
     /// How many bytes there are, where they end no further than a stream can.
     fn room_for(&self, bytes: u128) -> Option<usize>
         ensures { RoomFor self.now bytes result }
@@ -532,23 +541,26 @@ impl<B: BufferedStream> WrittenText<B> {
         }
     }
 
-    /// Puts the bytes of a text behind those that are owed. There is room then for as many more as the buffer holds.
-    fn put(&mut self, alloc: Global, text: &str, bytes: usize) -> Result<(), IoFault>
+    /// Puts the bytes of a text, which has at most so many, behind those that are owed, and answers how many it has. There is room then for
+    /// as many more as the buffer holds.
+    fn put(&mut self, alloc: Global, text: &str, most: usize) -> Result<usize, IoFault>
         requires live { self.old.life ≡ Life.Live }
         requires stands { StandsToWrite self.old.text }
         requires writes { self.old.text.buffer.can.writable ≡ true }
         requires whole { written_refusal self.old.text.settings (chars text.now) ≡ None }
-        requires size { bytes ≡ length (written_bytes self.old.text.settings (chars text.now)) }
-        requires far { (place_now self.old).at + bytes ≤ greatest_place }
+        requires most { length (written_bytes self.old.text.settings (chars text.now)) ≤ most }
+        requires far { (place_now self.old).at + most ≤ greatest_place }
+        ensures count { IfOk result (λ count. count ≡ length (written_bytes self.old.text.settings (chars text.now))) }
         ensures put { OnOk result (self.new ≡ record self.old { pending = self.old.pending ++ written_bytes self.old.text.settings (chars text.now); room = self.new.room }) }
         ensures memory { IfErr result (λ why. why ≡ IoFault.NoMemory) }
         ensures same { OnErr result (self.new ≡ record self.old { room = self.new.room }) }
     {
         // What holds of every text is known from here on.
         let _ = &self.life;
-        let Some(room) = bytes.checked_add(self.text.buffer().buffer_size()) else {
+        let Some(room) = most.checked_add(self.text.buffer().buffer_size()) else {
             return Err(IoFault::NoMemory);
         };
+        let owed = self.pending.len();
         self.pending.reserve(room)?;
         push_written_text(
             alloc,
@@ -556,7 +568,8 @@ impl<B: BufferedStream> WrittenText<B> {
             self.text.settings().newline,
             text,
             &mut self.pending,
-        )
+        )?;
+        Ok(self.pending.len() - owed)
     }
 
     /// Lets go of the last n of the bytes that are owed.
@@ -649,7 +662,8 @@ impl<B: BufferedStream> WrittenText<B> {
         if self.text.is_dirty() {
             return Err(IoFault::SeekFirst);
         }
-        match written_size(self.text.coder(), self.text.settings().newline, text) {
+        let coder = self.text.coder();
+        match written_size(coder, self.text.settings().newline, text, self.room()) {
             Ok(size) => self.write_sized(alloc, text, size),
             Err(fault) => Err(fault),
         }
@@ -667,18 +681,19 @@ impl<B: BufferedStream> WrittenText<B> {
         requires clean { self.old.text.dirty ≡ false }
         requires whole { written_refusal self.old.text.settings (chars text.now) ≡ None }
         requires chars { size.chars ≡ length (chars text.now) }
-        requires bytes { size.bytes ≡ length (written_bytes self.old.text.settings (chars text.now)) }
+        requires most { length (written_bytes self.old.text.settings (chars text.now)) ≤ size.bytes }
+        requires bytes { ((place_now self.old).at + size.bytes ≤ greatest_place) ⊎ (size.bytes ≡ length (written_bytes self.old.text.settings (chars text.now))) }
         ensures { Answers (state_of self.old false) (WriteText (chars text.now)) (count_reply result) (state_of self.new (says_wait (count_reply result))) }
     {
         // What holds of every text is known from here on.
         let _ = self.life();
-        let Some(bytes) = self.room_for(size.bytes) else {
+        let Some(most) = self.room_for(size.bytes) else {
             return Err(IoFault::TooFar);
         };
         let flushes = self.flushes(text);
         match self.go_back() {
-            Ok(()) => match self.put(alloc, text, bytes) {
-                Ok(()) => match self.hand_on(bytes, flushes) {
+            Ok(()) => match self.put(alloc, text, most) {
+                Ok(bytes) => match self.hand_on(bytes, flushes) {
                     Ok(()) => Ok(size.chars),
                     Err(fault) => Err(fault),
                 },
