@@ -5,13 +5,14 @@ use lib.Utf8.{encode, next}
 use Rattle.std.specs.Int.RustNames.{count_ones}
 use Rattle.std.specs.Fmt.{is_char_start}
 use Rattle.std.specs.List.{count_by}
-use Rattle.std.specs.Str.{IsUtf8, chars, encode_utf8_all}
+use Rattle.std.specs.Bool.{MatchBool}
+use Rattle.std.specs.Str.{IsAscii, IsUtf8, chars, encode_utf8_all}
 use Rattle.std.proofs.lemmas.Bool.Decides.{nat_tests}
 use Rattle.std.proofs.Math.Seq.{take-add}
 use Rattle.std.proofs.lemmas.List.{append_assoc, length-take, length-drop, take_all}
 use Rattle.std.proofs.lemmas.List.Sums.{sum_by-cons, sum_by-append, sum_by-take-drop, count_by-le-length}
 use Rattle.std.proofs.lemmas.Simd.{bitmask_splat, ones-mask_l}
-use Rattle.std.proofs.lemmas.Str.{encodes-chars}
+use Rattle.std.proofs.lemmas.Str.{encodes-chars, IsUtf8-from_ascii, chars-IsAscii}
 
 start-count : (b : ℕ) (bytes : List ℕ) → is_char_start b ≡ true → count_by is_char_start (b ∷ bytes) ≡ 1 + count_by is_char_start bytes
 start-count b bytes starts = sum_by-cons (λ x. cond (is_char_start x) 1 0) b bytes ∙ ap (λ t. cond t 1 0 + count_by is_char_start bytes) starts
@@ -56,6 +57,11 @@ count-encodes (c ∷ cs) =
 -- a text has as many characters as bytes that begin one
 pub count-chars : (text : List ℕ) → IsUtf8 text → count_by is_char_start text ≡ length (chars text)
 count-chars text utf8 = ap (count_by is_char_start) (sym (encodes-chars text utf8)) ∙ count-encodes (chars text)
+
+-- each byte of ASCII begins a character
+pub count-ascii : (bytes : List ℕ) (tested : Bool) (No : Type 0) → MatchBool tested (IsAscii bytes) No → tested ≡ true → length bytes ≡ count_by is_char_start bytes
+count-ascii bytes true No ascii is = sym (count-chars bytes (IsUtf8-from_ascii bytes ascii) ∙ ap length (chars-IsAscii bytes ascii))
+count-ascii bytes false No ascii is = absurd (cc)
 
 -- a byte that begins no character is below 0xC0 and not below 0x80
 one-start : (b : ℕ) → cond (is_char_start b) 1 0 + cond (ltb b 192) 1 0 ≡ 1 + cond (ltb b 128) 1 0

@@ -64,10 +64,14 @@ fn starts_in(bytes: &[u8]) -> usize
     count
 }
 
-/// How many of some bytes begin a character of UTF-8: all but those from 0x80 to 0xBF. Many of them are counted at once.
+/// How many of some bytes begin a character of UTF-8: all but those from 0x80 to 0xBF. Many of them are counted at once, and those of ASCII
+/// aren't, as each begins one.
 pub fn count_starts(bytes: &[u8]) -> usize
     ensures { result ≡ count_by is_char_start bytes.now }
 {
+    if bytes.is_ascii() {
+        return bytes.len();
+    }
     let (count, behind) = starts_in_blocks(bytes);
     count + starts_in(behind)
 }

@@ -21,13 +21,10 @@ pub struct WrittenSize {
     pub bytes: u128,
 }
 
-/// How many characters a text has: of ASCII as many as its bytes, else as many as those of them that begin one.
+/// How many characters a text has: as many as its bytes that begin one.
 fn characters(text: &str) -> usize
     ensures { result ≡ length (chars text.now) }
 {
-    if text.is_ascii() {
-        return text.len();
-    }
     count_starts(text.as_bytes())
 }
 
