@@ -87,10 +87,25 @@ one-twice : (coder : Coder) (newline : Newlines) (c : ℕ) (is_lf : Bool) → na
 one-twice coder newline c false is = omega (arith, ap len (other-stays coder newline c false refl))
 one-twice coder newline c true is = omega (arith, end-twice coder newline, ap (λ (n : ℕ). len (character_bytes coder.errors coder.encoding n)) (eqb-true c lf is))
 
--- nor does a text
 pub text-twice : (coder : Coder) (newline : Newlines) (text : List ℕ) → len (each_written coder newline text) ≤ 2 * len (each_encoded coder text)
 text-twice coder newline [] = omega arith
 text-twice coder newline (c ∷ text) = omega (arith, length-append (written_character coder newline c) (each_written coder newline text), length-append (character_bytes coder.errors coder.encoding c) (each_encoded coder text), one-twice coder newline c (nat_eq c lf) refl, text-twice coder newline text)
+
+-- nor to fewer than them
+end-least : (coder : Coder) (newline : Newlines) → len (character_bytes coder.errors coder.encoding lf) ≤ len (each_encoded coder (written_end newline))
+end-least coder rule.Universal = omega (arith, length-append (character_bytes coder.errors coder.encoding lf) [])
+end-least coder rule.Passthrough = omega (arith, length-append (character_bytes coder.errors coder.encoding lf) [])
+end-least coder rule.Lf = omega (arith, length-append (character_bytes coder.errors coder.encoding lf) [])
+end-least coder rule.Cr = omega (arith, length-append (character_bytes coder.errors coder.encoding cr) [], cr-as-long coder.errors coder.encoding)
+end-least coder rule.Crlf = omega (arith, length-append (character_bytes coder.errors coder.encoding cr) (character_bytes coder.errors coder.encoding lf ++ []), length-append (character_bytes coder.errors coder.encoding lf) [])
+
+one-least : (coder : Coder) (newline : Newlines) (c : ℕ) (is_lf : Bool) → nat_eq c lf ≡ is_lf → len (character_bytes coder.errors coder.encoding c) ≤ len (each_spelled (character_bytes coder.errors coder.encoding) (if is_lf then written_end newline else c ∷ []))
+one-least coder newline c false is = omega (arith, ap len (other-stays coder newline c false refl))
+one-least coder newline c true is = omega (arith, end-least coder newline, ap (λ (n : ℕ). len (character_bytes coder.errors coder.encoding n)) (eqb-true c lf is))
+
+pub text-least : (coder : Coder) (newline : Newlines) (text : List ℕ) → len (each_encoded coder text) ≤ len (each_written coder newline text)
+text-least coder newline [] = omega arith
+text-least coder newline (c ∷ text) = omega (arith, length-append (written_character coder newline c) (each_written coder newline text), length-append (character_bytes coder.errors coder.encoding c) (each_encoded coder text), one-least coder newline c (nat_eq c lf) refl, text-least coder newline text)
 
 -- a line end is of one or two characters
 pub end-few : (newline : Newlines) → len (written_end newline) ≤ 2

@@ -1,4 +1,4 @@
-ghost use Rattle.std.specs.Prelude.{◌≡◌, ◌≤◌, ◌⊎◌, None, Some, length, chars, IfOk, IfErr, MatchOption};
+ghost use Rattle.std.specs.Prelude.{◌≡◌, ◌*◌, ◌≤◌, ◌⊎◌, None, Some, length, chars, IfOk, IfErr, MatchOption};
 ghost use Rattle.py_plain.specs.Encode.{refused_run, encode_treatment, encoded};
 ghost use Rattle.py_plain_text.specs.TextWriting.{written_bytes, written_refusal};
 ghost use Rattle.py_plain_text.specs.TextRefusals.{encode_error};
@@ -17,7 +17,7 @@ use py_plain::{Encoding, Newlines};
 pub struct WrittenSize {
     /// How many characters the text has.
     pub chars: usize,
-    /// How many bytes it is written as; of a short text, where there is room enough, at most so many.
+    /// How many bytes it is written as; of a short text, where there is room enough, at most so many, and half as many at least.
     pub bytes: u128,
 }
 
@@ -43,7 +43,7 @@ fn refusal(coder: Coder, text: &str) -> Option<IoFault>
 }
 
 /// How many characters a text has, and how many bytes it is written as by a newline rule and a coder, where these are more than the
-/// room for them; else at most how many. It takes no memory.
+/// room for them; else at most how many, and no more than twice as many. It takes no memory.
 ///
 /// `UnicodeEncodeError`: the handler refuses a run of characters without bytes; it is the first such run, counted in
 /// characters of the text.
@@ -57,6 +57,7 @@ pub fn written_size(
     ensures characters { IfOk result (λ size. size.chars ≡ length (chars text.now)) }
     ensures most { IfOk result (λ size. length (written_bytes (settings_of coder newline) (chars text.now)) ≤ size.bytes) }
     ensures bytes { IfOk result (λ size. (size.bytes ≤ room) ⊎ (size.bytes ≡ length (written_bytes (settings_of coder newline) (chars text.now)))) }
+    ensures few { IfOk result (λ size. size.bytes ≤ 2 * length (written_bytes (settings_of coder newline) (chars text.now))) }
     ensures err { IfErr result (λ why. encode_error (written_refusal (settings_of coder newline) (chars text.now)) ≡ Some why) }
 {
     if let Some(why) = refusal(coder, text) {

@@ -131,6 +131,7 @@ const SHORT: usize = 4096;
 pub(crate) fn length_within(coder: Coder, newline: Newlines, text: &str, room: u128) -> u128
     ensures most { length (each_written coder newline (chars text.now)) ≤ result }
     ensures bytes { (result ≤ room) ⊎ (result ≡ length (each_written coder newline (chars text.now))) }
+    ensures few { result ≤ 2 * length (each_written coder newline (chars text.now)) }
 {
     let twice = text.len() as u128 * 2;
     if text.len() <= SHORT && twice <= room && stays(coder, text) {

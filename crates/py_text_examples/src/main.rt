@@ -38,6 +38,7 @@ fn main(rt: HostRuntime) -> Result<()> {
     print(&rt, indexing::indexed(alloc))?;
     print(&rt, indexing::unfit(alloc))?;
     print(&rt, writing::written(alloc))?;
+    print(&rt, writing::many_lines(alloc))?;
     print(&rt, writing::read_in_part(alloc))?;
     print(&rt, writing::by_lines(alloc))?;
     print(&rt, starving::starves(alloc))?;

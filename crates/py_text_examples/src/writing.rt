@@ -48,6 +48,18 @@ fn shown_bytes(
     format!(in alloc; "{word} {count} {bytes:?}")
 }
 
+/// Many lines are written at once, each with CR LF.
+pub(crate) fn many_lines(alloc: Global) -> Result<String> {
+    let mut settings = TextSettings::default();
+    settings.newline = Newlines::Crlf;
+    let buffer = BytesIO::new(alloc, Vec::new(alloc));
+    let mut text = TextIOWrapper::new(alloc, buffer, STRICT, settings)?;
+    let count = text.write(alloc, "a\n".repeat(alloc, 3000)?.as_str());
+    let bytes = bytes_of(alloc, &mut text)?;
+    let are_ended = bytes.chunks(3).all(|line| line == b"a\r\n".as_slice());
+    Ok(format!(in alloc; "many lines: {} {} {are_ended}", count?, bytes.len())?)
+}
+
 /// A text that was read in part is written once it was read to its end.
 pub(crate) fn read_in_part(alloc: Global) -> Result<String> {
     let buffer = BytesIO::new(alloc, b"one\ntwo\nthree".to_vec(alloc)?);
