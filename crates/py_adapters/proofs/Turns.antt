@@ -6,11 +6,11 @@ use Rattle.std.specs.declared.io.Error.{Error}
 use Rattle.std.specs.declared.io.ErrorKind.TheVariants as kind
 use Rattle.py_flat.specs.declared.fault.IoFault.{IoFault}
 use Rattle.py_flat.specs.Lines.{joined}
-use Rattle.py_flat.specs.Calls.{FileReply, Write}
+use Rattle.py_flat.specs.Calls.{FileCall, FileReply, Write}
 use Rattle.py_stream.specs.Replies.{into_reply, count_reply}
-use Rattle.py_stream.specs.Buffer.{Buffer, AnswersAsBuffer}
+use Rattle.py_stream.specs.Buffer.{Buffer}
 use borrow.Rule.Slice.PartMut.{put_mid}
-use Rattle.py_adapters.specs.Answers.{AnsweredBy, SaysRead, SaysWritten, InTurn, MovesInTurn, GivesPart, SaysEnded, EndsReading, TakesPart, SaysTookNone, EndsWriting}
+use Rattle.py_adapters.specs.Answers.{AnsweredBy, MadeBy, SaysRead, SaysWritten, InTurn, MovesInTurn, GivesPart, SaysEnded, EndsReading, TakesPart, SaysTookNone, EndsWriting}
 use Rattle.py_adapters.proofs.Known.{front_put, front_stays}
 
 -- the bytes of a part behind others
@@ -127,26 +127,26 @@ left_of : (all done left : List ℕ) (parts : List (List ℕ)) → all ≡ done 
 left_of all done left parts split same = ap (λ (count : ℕ). drop count all) (ap length same) ∙ (ap (drop (length done)) split ∙ drop_at done left (length done) refl)
 
 -- one write more
-pub took_more : (all done left : List ℕ) (count : ℕ) (before mid after : Buffer) (parts : List (List ℕ)) → all ≡ done ++ left → joined parts ≡ done → InTurn (TakesPart all) 0 before parts mid → 0 < count → count ≤ length left → AnsweredBy (λ (came : Result ℕ IoFault). AnswersAsBuffer mid (Write left) (count_reply came) after) (λ (came : Result ℕ IoFault). SaysWritten came after.taken (Ok count)) → (more : List (List ℕ)) × (joined more ≡ done ++ take count left) × InTurn (TakesPart all) 0 before more after
-took_more all done left count before mid after parts split same turns some within by =
+pub took_more : {Own : Type 0} (shows : Own → Buffer) (own : Own → FileCall → FileReply → Own → Type 0) (all done left : List ℕ) (count : ℕ) (before mid after : Own) (parts : List (List ℕ)) → all ≡ done ++ left → joined parts ≡ done → InTurn (TakesPart shows own all) 0 before parts mid → 0 < count → count ≤ length left → AnsweredBy (λ (came : Result ℕ IoFault). MadeBy shows own mid (Write left) (count_reply came) after) (λ (came : Result ℕ IoFault). SaysWritten came (shows after).taken (Ok count)) → (more : List (List ℕ)) × (joined more ≡ done ++ take count left) × InTurn (TakesPart shows own all) 0 before more after
+took_more shows own all done left count before mid after parts split same turns some within by =
     let part : List ℕ = take count left in
-    let took : TakesPart all (length (joined parts)) mid part after = record {
+    let took : TakesPart shows own all (length (joined parts)) mid part after = record {
       came = by.came;
-      answered = subst (λ (own : List ℕ). AnswersAsBuffer mid (Write own) (count_reply by.came) after) (sym (left_of all done left parts split same)) by.answered;
-      said = subst (λ (n : ℕ). SaysWritten by.came after.taken (Ok n)) (sym (length-take-le count left within)) by.said;
+      answered = subst (λ (some : List ℕ). MadeBy shows own mid (Write some) (count_reply by.came) after) (sym (left_of all done left parts split same)) by.answered;
+      said = subst (λ (n : ℕ). SaysWritten by.came (shows after).taken (Ok n)) (sym (length-take-le count left within)) by.said;
     } in
-    (parts ++ (part ∷ []), joined_on parts part ∙ ap (λ (xs : List ℕ). xs ++ part) same, turns_on (TakesPart all) 0 before mid after parts part turns (some_taken left count some within) (subst (λ (at : ℕ). TakesPart all at mid part after) (omega arith) took))
+    (parts ++ (part ∷ []), joined_on parts part ∙ ap (λ (xs : List ℕ). xs ++ part) same, turns_on (TakesPart shows own all) 0 before mid after parts part turns (some_taken left count some within) (subst (λ (at : ℕ). TakesPart shows own all at mid part after) (omega arith) took))
 
 -- a write that took none ended it
-pub took_until : (all done left : List ℕ) (before mid after : Buffer) (parts : List (List ℕ)) (result : Result (Unit {0}) Error) (error : Error) → all ≡ done ++ left → joined parts ≡ done → InTurn (TakesPart all) 0 before parts mid → 0 < length left → result ≡ Err error → AnsweredBy (λ (came : Result ℕ IoFault). AnswersAsBuffer mid (Write left) (count_reply came) after) (λ (came : Result ℕ IoFault). SaysTookNone came after.taken error) → MovesInTurn (TakesPart all) (EndsWriting all) all before result after
-took_until all done left before mid after parts result error split same turns some says by =
+pub took_until : {Own : Type 0} (shows : Own → Buffer) (own : Own → FileCall → FileReply → Own → Type 0) (all done left : List ℕ) (before mid after : Own) (parts : List (List ℕ)) (result : Result (Unit {0}) Error) (error : Error) → all ≡ done ++ left → joined parts ≡ done → InTurn (TakesPart shows own all) 0 before parts mid → 0 < length left → result ≡ Err error → AnsweredBy (λ (came : Result ℕ IoFault). MadeBy shows own mid (Write left) (count_reply came) after) (λ (came : Result ℕ IoFault). SaysTookNone came (shows after).taken error) → MovesInTurn (TakesPart shows own all) (EndsWriting shows own all) all before result after
+took_until shows own all done left before mid after parts result error split same turns some says by =
     let behind : drop (length (joined parts)) all ≡ left = left_of all done left parts split same in
     record {
       parts = parts;
       front = ap (λ (count : ℕ). take count all) (ap length same) ∙ (ap (take (length done)) split ∙ (take_at done left (length done) refl ∙ sym same));
       mid = mid;
       turns = turns;
-      ends = rw says (omega (arith, some, ap length same, ap length split, length-append done left), record { came = by.came; answered = subst (λ (own : List ℕ). AnswersAsBuffer mid (Write own) (count_reply by.came) after) (sym behind) by.answered; said = by.said });
+      ends = rw says (omega (arith, some, ap length same, ap length split, length-append done left), record { came = by.came; answered = subst (λ (some : List ℕ). MadeBy shows own mid (Write some) (count_reply by.came) after) (sym behind) by.answered; said = by.said });
     }
 
 took_nothing : (came : Result ℕ IoFault) (taken count : ℕ) (error : Error) → count ≡ 0 → error_kind error ≡ kind.WriteZero → SaysWritten came taken (Ok count) → SaysTookNone came taken error

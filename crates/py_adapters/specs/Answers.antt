@@ -9,7 +9,7 @@ use Rattle.std.specs.declared.io.traits.SeekFrom.TheVariants.{Start, End, Curren
 use Rattle.py_flat.specs.declared.fault.IoFault.{IoFault}
 use Rattle.py_flat.specs.Limits.{greatest_place}
 use Rattle.py_flat.specs.Lines.{joined}
-use Rattle.py_flat.specs.Calls.{FileReply, Bytes, Write, Seek}
+use Rattle.py_flat.specs.Calls.{FileCall, FileReply, Bytes, Write, Seek}
 use Rattle.py_flat.specs.Conversions.{kind_of}
 use Rattle.py_stream.specs.Replies.{into_reply, count_reply, place_reply}
 use Rattle.py_stream.specs.Buffer.{Buffer, AnswersAsBuffer}
@@ -19,6 +19,10 @@ pub record AnsweredBy {Own : Type 0} (answers says : Own → Type 0) : Type 0 wh
   pub came : Own
   pub answered : answers came
   pub said : says came
+
+-- a call of a stream, by its own clause and by that of any buffered one
+abbrev pub MadeBy : {Own : Type 0} (shows : Own → Buffer) (own : Own → FileCall → FileReply → Own → Type 0) → Own → FileCall → FileReply → Own → Type 0
+MadeBy shows own before call reply after = own before call reply after × AnswersAsBuffer (shows before) call reply (shows after)
 
 -- std's answer is the stream's own, or the error of its refusal
 abbrev pub Says : {A : Type 0} → Result A IoFault → Result A Error → Type 0
@@ -88,8 +92,8 @@ EndsReading answers size done before (Ok all) after = (done ≡ size) × (after 
 EndsReading answers size done before (Err error) after = (done < size) × AnsweredBy (λ came. answers before (size - done) (into_reply came []) after) (λ came. SaysEnded came error)
 
 -- a write of what is left of some bytes took these
-abbrev pub TakesPart : (all : List ℕ) → ℕ → Buffer → List ℕ → Buffer → Type 0
-TakesPart all done before part after = AnsweredBy (λ came. AnswersAsBuffer before (Write (drop done all)) (count_reply came) after) (λ came. SaysWritten came after.taken (Ok (length part)))
+abbrev pub TakesPart : {Own : Type 0} (shows : Own → Buffer) (own : Own → FileCall → FileReply → Own → Type 0) (all : List ℕ) → ℕ → Own → List ℕ → Own → Type 0
+TakesPart shows own all done before part after = AnsweredBy (λ came. MadeBy shows own before (Write (drop done all)) (count_reply came) after) (λ came. SaysWritten came (shows after).taken (Ok (length part)))
 
 -- the last write took none, and said so or was refused
 abbrev pub SaysTookNone : Result ℕ IoFault → (taken : ℕ) → Error → Type 0
@@ -98,27 +102,27 @@ SaysTookNone (Ok (suc count)) taken error = ⊥
 SaysTookNone (Err why) taken error = (taken ≡ 0) × (error_kind error ≡ kind_of why)
 
 -- a write of some bytes ends once all of them were taken, or with the error of one write more
-abbrev pub EndsWriting : (all : List ℕ) → ℕ → Buffer → Result (Unit {0}) Error → Buffer → Type 0
-EndsWriting all done before (Ok taken) after = (done ≡ length all) × (after ≡ before)
-EndsWriting all done before (Err error) after = (done < length all) × AnsweredBy (λ came. AnswersAsBuffer before (Write (drop done all)) (count_reply came) after) (λ came. SaysTookNone came after.taken error)
+abbrev pub EndsWriting : {Own : Type 0} (shows : Own → Buffer) (own : Own → FileCall → FileReply → Own → Type 0) (all : List ℕ) → ℕ → Own → Result (Unit {0}) Error → Own → Type 0
+EndsWriting shows own all done before (Ok taken) after = (done ≡ length all) × (after ≡ before)
+EndsWriting shows own all done before (Err error) after = (done < length all) × AnsweredBy (λ came. MadeBy shows own before (Write (drop done all)) (count_reply came) after) (λ came. SaysTookNone came (shows after).taken error)
 
 -- Seeks.
 
 -- a seek is the stream's own
-abbrev pub SoughtAs : Buffer → (offset whence : ℤ) → Result ℕ Error → Buffer → Type 0
-SoughtAs before offset whence result after = AnsweredBy (λ came. AnswersAsBuffer before (Seek offset whence) (place_reply came) after) (λ came. Says came result)
+abbrev pub SoughtAs : {Own : Type 0} (shows : Own → Buffer) (own : Own → FileCall → FileReply → Own → Type 0) → Own → (offset whence : ℤ) → Result ℕ Error → Own → Type 0
+SoughtAs shows own before offset whence result after = AnsweredBy (λ came. MadeBy shows own before (Seek offset whence) (place_reply came) after) (λ came. Says came result)
 
 -- a seek from the start to a place is the stream's own; past every place of a stream it is one to before the start, whose refusal is of the
 -- same kind
-abbrev pub StartsAs : (within : Bool) → Buffer → (place : ℕ) → Result ℕ Error → Buffer → Type 0
-StartsAs true before place result after = SoughtAs before (pos place) (pos 0) result after
-StartsAs false before place result after = SoughtAs before (negsuc 0) (pos 0) result after
+abbrev pub StartsAs : {Own : Type 0} (shows : Own → Buffer) (own : Own → FileCall → FileReply → Own → Type 0) (within : Bool) → Own → (place : ℕ) → Result ℕ Error → Own → Type 0
+StartsAs shows own true before place result after = SoughtAs shows own before (pos place) (pos 0) result after
+StartsAs shows own false before place result after = SoughtAs shows own before (negsuc 0) (pos 0) result after
 
 -- a seek from the start, the place or the end
-abbrev pub SeeksAs : Buffer → SeekFrom → Result ℕ Error → Buffer → Type 0
-SeeksAs before (Start place) result after = StartsAs (nat_le place greatest_place) before place result after
-SeeksAs before (Current offset) result after = SoughtAs before offset (pos 1) result after
-SeeksAs before (End offset) result after = SoughtAs before offset (pos 2) result after
+abbrev pub SeeksAs : {Own : Type 0} (shows : Own → Buffer) (own : Own → FileCall → FileReply → Own → Type 0) → Own → SeekFrom → Result ℕ Error → Own → Type 0
+SeeksAs shows own before (Start place) result after = StartsAs shows own (nat_le place greatest_place) before place result after
+SeeksAs shows own before (Current offset) result after = SoughtAs shows own before offset (pos 1) result after
+SeeksAs shows own before (End offset) result after = SoughtAs shows own before offset (pos 2) result after
 
 -- the answer says only that the stream's own place was answered, or the error of its refusal
 abbrev pub SaysMoved : Result ℕ IoFault → Result (Unit {0}) Error → Type 0
@@ -127,5 +131,5 @@ SaysMoved (Err why) (Err error) = error_kind error ≡ kind_of why
 SaysMoved came result = ⊥
 
 -- a seek is the stream's own, and its place isn't answered
-abbrev pub MovedAs : Buffer → (offset whence : ℤ) → Result (Unit {0}) Error → Buffer → Type 0
-MovedAs before offset whence result after = AnsweredBy (λ came. AnswersAsBuffer before (Seek offset whence) (place_reply came) after) (λ came. SaysMoved came result)
+abbrev pub MovedAs : {Own : Type 0} (shows : Own → Buffer) (own : Own → FileCall → FileReply → Own → Type 0) → Own → (offset whence : ℤ) → Result (Unit {0}) Error → Own → Type 0
+MovedAs shows own before offset whence result after = AnsweredBy (λ came. MadeBy shows own before (Seek offset whence) (place_reply came) after) (λ came. SaysMoved came result)

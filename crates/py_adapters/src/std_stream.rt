@@ -154,9 +154,8 @@ impl<S: BufferedStream> Write for StdStream<S> {
     ghost use Rattle.std.specs.Io.KnownBytes.{Keeps, Appends, WriteAppends};
     ghost use Rattle.py_flat.specs.Calls.{Write as WriteCall, Flush};
     ghost use Rattle.py_stream.specs.Replies.{count_reply, done_reply};
-    ghost use Rattle.py_stream.specs.Buffer.{AnswersAsBuffer};
     ghost use Rattle.py_adapters.specs.Known.{written_in, TakesFront};
-    ghost use Rattle.py_adapters.specs.Answers.{AnsweredBy, Says, SaysWritten, MovesInTurn, TakesPart, EndsWriting, IsntInterrupted};
+    ghost use Rattle.py_adapters.specs.Answers.{AnsweredBy, MadeBy, Says, SaysWritten, MovesInTurn, TakesPart, EndsWriting, IsntInterrupted};
 
     ghost contents = { λ stream. written_in (S.shows stream) };
 
@@ -168,7 +167,7 @@ impl<S: BufferedStream> Write for StdStream<S> {
     fn write(&mut self, buf: &[u8]) -> io::Result<usize>
         ensures bound { WritesAtMost result buf.now }
         ensures bytes { WriteAppends (written_in (S.shows self.old)) (written_in (S.shows self.new)) result buf.now }
-        ensures answers { AnsweredBy (λ came. AnswersAsBuffer (S.shows self.old) (WriteCall buf.now) (count_reply came) (S.shows self.new)) (λ came. SaysWritten came (S.shows self.new).taken result) }
+        ensures answers { AnsweredBy (λ came. MadeBy S.shows S.own self.old (WriteCall buf.now) (count_reply came) self.new) (λ came. SaysWritten came (S.shows self.new).taken result) }
         ensures retried { IsntInterrupted result }
     {
         match self.stream.write(buf) {
@@ -184,7 +183,7 @@ impl<S: BufferedStream> Write for StdStream<S> {
     fn write_all(&mut self, buf: &[u8]) -> io::Result<()>
         ensures bytes { OnOk result (Appends (written_in (S.shows self.old)) (written_in (S.shows self.new)) buf.now) }
         ensures part { IfErr result (λ error. TakesFront (written_in (S.shows self.old)) buf.now (written_in (S.shows self.new))) }
-        ensures turns { MovesInTurn (TakesPart buf.now) (EndsWriting buf.now) buf.now (S.shows self.old) result (S.shows self.new) }
+        ensures turns { MovesInTurn (TakesPart S.shows S.own buf.now) (EndsWriting S.shows S.own buf.now) buf.now self.old result self.new }
         ensures retried { IsntInterrupted result }
     {
         let mut rest = buf;
@@ -204,7 +203,7 @@ impl<S: BufferedStream> Write for StdStream<S> {
     /// is still owed.
     fn flush(&mut self) -> io::Result<()>
         ensures bytes { Keeps (written_in (S.shows self.old)) (written_in (S.shows self.new)) }
-        ensures answers { AnsweredBy (λ came. AnswersAsBuffer (S.shows self.old) Flush (done_reply came) (S.shows self.new)) (λ came. Says came result) }
+        ensures answers { AnsweredBy (λ came. MadeBy S.shows S.own self.old Flush (done_reply came) self.new) (λ came. Says came result) }
         ensures retried { IsntInterrupted result }
     {
         io_result(self.stream.flush())
@@ -231,7 +230,7 @@ impl<S: BufferedStream> Seek for StdStream<S> {
     fn seek(&mut self, to: SeekFrom) -> io::Result<u64>
         ensures moves { SeekMoves (Some (S.shows self.old).place) (Some (S.shows self.new).place) (bytes_in (S.shows self.old)) to result }
         ensures bytes { Keeps (bytes_in (S.shows self.old)) (bytes_in (S.shows self.new)) }
-        ensures answers { SeeksAs (S.shows self.old) to result (S.shows self.new) }
+        ensures answers { SeeksAs S.shows S.own self.old to result self.new }
         ensures retried { IsntInterrupted result }
     {
         match to {
@@ -248,7 +247,7 @@ impl<S: BufferedStream> Seek for StdStream<S> {
     fn rewind(&mut self) -> io::Result<()>
         ensures moves { MovesTo (Some (S.shows self.old).place) (Some (S.shows self.new).place) 0 result }
         ensures bytes { Keeps (bytes_in (S.shows self.old)) (bytes_in (S.shows self.new)) }
-        ensures answers { MovedAs (S.shows self.old) (pos 0) (pos 0) result (S.shows self.new) }
+        ensures answers { MovedAs S.shows S.own self.old (pos 0) (pos 0) result self.new }
         ensures retried { IsntInterrupted result }
     {
         io_moved(self.stream.seek(0, 0))
@@ -258,7 +257,7 @@ impl<S: BufferedStream> Seek for StdStream<S> {
     fn seek_relative(&mut self, offset: i64) -> io::Result<()>
         ensures moves { MovesBy (Some (S.shows self.old).place) (Some (S.shows self.new).place) offset result }
         ensures bytes { Keeps (bytes_in (S.shows self.old)) (bytes_in (S.shows self.new)) }
-        ensures answers { MovedAs (S.shows self.old) offset (pos 1) result (S.shows self.new) }
+        ensures answers { MovedAs S.shows S.own self.old offset (pos 1) result self.new }
         ensures retried { IsntInterrupted result }
     {
         io_moved(self.stream.seek(offset, 1))

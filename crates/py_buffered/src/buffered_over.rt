@@ -229,6 +229,8 @@ impl<R: RawStream, K: WritingKind> BufferedOver<R, K> {
 impl<R: RawStream, K: BufferedKind> BufferedStream for BufferedOver<R, K> {
     ghost shows = { λ view. buffer_of (K.stream view) (K.taken view) };
 
+    ghost own = { λ old call reply new. Answers (K.stream old) call reply (K.stream new) };
+
     fn read1(&mut self, alloc: Global, size: Option<usize>) -> Result<Option<Vec<u8>>, IoFault> {
         BufferedStream::read1(&mut self.inner, alloc, size)
     }

@@ -2,6 +2,7 @@
 ghost use Rattle.std.specs.Prelude.{◌≡◌, false};
 ghost use Rattle.py_flat.specs.Calls.{Read1, Write, Seek, Flush, Close};
 ghost use Rattle.py_stream.specs.Replies.{bytes_reply, count_reply, place_reply, done_reply};
+ghost use Rattle.py_stream.specs.Answers.{Answers};
 ghost use Rattle.py_stream.specs.Buffer.{TellsPlace, AnswersEnd, AnswersAsBuffer};
 ghost use Rattle.py_buffered_core.specs.Buffered.{seen_of, as_buffer};
 
@@ -14,8 +15,11 @@ use std::alloc::Global;
 impl<R: RawStream> BufferedStream for Buffered<R> {
     ghost shows = { as_buffer };
 
+    ghost own = { λ old call reply new. Answers (seen_of old) call reply (seen_of new) };
+
     fn read1(&mut self, alloc: Global, size: Option<usize>) -> Result<Option<Vec<u8>>, IoFault>
         ensures answers { AnswersAsBuffer (as_buffer self.old) (Read1 size) (bytes_reply result) (as_buffer self.new) }
+        ensures own { Answers (seen_of self.old) (Read1 size) (bytes_reply result) (seen_of self.new) }
         ensures taken { self.new.taken ≡ self.old.taken }
     {
         let _ = self.place();
@@ -28,6 +32,7 @@ impl<R: RawStream> BufferedStream for Buffered<R> {
 
     fn write(&mut self, bytes: &[u8]) -> Result<usize, IoFault>
         ensures answers { AnswersAsBuffer (as_buffer self.old) (Write bytes.now) (count_reply result) (as_buffer self.new) }
+        ensures own { Answers (seen_of self.old) (Write bytes.now) (count_reply result) (seen_of self.new) }
         ensures unwritten { (seen_of self.old).can.writable ≡ false → self.new.taken ≡ 0 }
     {
         let _ = (self.place(), self.buffer_size());
@@ -41,6 +46,7 @@ impl<R: RawStream> BufferedStream for Buffered<R> {
 
     fn seek(&mut self, offset: i64, whence: i32) -> Result<u64, IoFault>
         ensures answers { AnswersAsBuffer (as_buffer self.old) (Seek offset whence) (place_reply result) (as_buffer self.new) }
+        ensures own { Answers (seen_of self.old) (Seek offset whence) (place_reply result) (seen_of self.new) }
         ensures taken { self.new.taken ≡ self.old.taken }
     {
         let _ = self.place();
@@ -64,6 +70,7 @@ impl<R: RawStream> BufferedStream for Buffered<R> {
 
     fn flush(&mut self) -> Result<(), IoFault>
         ensures answers { AnswersAsBuffer (as_buffer self.old) Flush (done_reply result) (as_buffer self.new) }
+        ensures own { Answers (seen_of self.old) Flush (done_reply result) (seen_of self.new) }
         ensures taken { self.new.taken ≡ self.old.taken }
     {
         let _ = self.place();
@@ -72,6 +79,7 @@ impl<R: RawStream> BufferedStream for Buffered<R> {
 
     fn close(&mut self) -> Result<(), IoFault>
         ensures answers { AnswersAsBuffer (as_buffer self.old) Close (done_reply result) (as_buffer self.new) }
+        ensures own { Answers (seen_of self.old) Close (done_reply result) (seen_of self.new) }
         ensures taken { self.new.taken ≡ self.old.taken }
     {
         let _ = self.place();

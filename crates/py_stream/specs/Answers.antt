@@ -419,7 +419,7 @@ pub record AsksNoMore (before : Stream) (call : FileCall) (reply : FileReply) (a
   pub needed : IsWhole call reply → LastIsNeeded before after
   pub last : EachBrings 1 1 before after
 
--- reads brought as many bytes as lie between some place at or behind that of the call, and where the raw stands after it; at most so many of
+-- reads brought as many bytes as lie between some place, not before that of the call, and where the raw stands after it; at most so many of
 -- them brought none
 pub record ReadsFrom (empties : ℕ) (before after : Stream) : Type 0 where
   pub from : ℕ
@@ -427,12 +427,12 @@ pub record ReadsFrom (empties : ℕ) (before after : Stream) : Type 0 where
   pub forth : from ≤ after.raw_place
   pub reads : ReadsInAll (after.raw_place - from) empties before.raw after.raw
 
--- no read brought anything, or they brought what lies up to where the raw stands
+-- no read brought anything, or they brought no more bytes than lie between the place of the call and where the raw stands after it
 abbrev pub ReadsUpTo : ℕ → Stream → Stream → Type 0
 ReadsUpTo empties before after = KeepsReads before.raw after.raw ⊎ ReadsFrom empties before after
 
--- A reading reads no more than it answers with, whatever it had to pass on first. An answer that is whole is made by reads that each brought
--- some byte, the last one a byte of the answer; no other made more than one that met the end. None brought a byte that lies before the place
+-- What the reads of a reading bring, whatever it had to pass on first: no more bytes than lie between its place and where the raw stands
+-- after it. Those of an answer that is whole each brought some byte, the last one a byte of the answer; of any other one met the end at most
 pub record ReadsNoMore (before : Stream) (call : FileCall) (reply : FileReply) (after : Stream) : Type 0 where
   pub whole : IsWhole call reply → ReadsUpTo 0 before after
   pub needed : IsWhole call reply → KeepsReads before.raw after.raw ⊎ WhereTransfers before.raw (after.raw_place < after.place + after.raw.reads.last)
@@ -518,7 +518,8 @@ pub record AnswersWith (room : FileCall → Bool) (before : Stream) (call : File
   pub owing : InHand before call → StaysHeld before after
   -- a reading that goes on from the bytes held asks for no more than it answers with
   pub needs : IsTrue (by_several before.buffer call) → IsAhead before → AsksNoMore before call reply after
-  -- any reading that goes on reads no more than it answers with, also where it had to pass on first
+  -- any reading that goes on brings no more bytes than lie behind its place, also where it had to pass on first, and none for an answer that
+  -- is whole already
   pub needs_reads : IsTrue (by_several before.buffer call) → ReadsNoMore before call reply after
   -- a stream that doesn't write leaves the raw's bytes, and owes nothing; only its readings and seeks move the raw
   pub spares : before.can.writable ≡ false → before.owed ≡ nothing_owed before.place → SparesBytes before call after

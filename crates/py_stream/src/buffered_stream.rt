@@ -1,6 +1,6 @@
 //! What the layer above asks of a buffered stream.
 ghost use Rattle.std.specs.Prelude.{◌≡◌, true, false, unwrap_or};
-ghost use Rattle.py_flat.specs.Calls.{Read1, Write, Seek, Flush, Close};
+ghost use Rattle.py_flat.specs.Calls.{FileCall, FileReply, Read1, Write, Seek, Flush, Close};
 ghost use Rattle.py_flat.specs.Refusals.{is_unbuffered};
 ghost use Rattle.py_flat.specs.ExactStep.{is_closed};
 ghost use Rattle.py_stream.specs.Replies.{bytes_reply, count_reply, place_reply, done_reply};
@@ -18,19 +18,25 @@ pub trait BufferedStream {
     /// What the stream shows: its flat file, its counts of faults and waits, what it owes, and, where it tells them, the raw's bytes.
     ghost shows: { Self → Buffer };
 
+    /// What the stream's own clause says of a call, beside what any such stream promises.
+    ghost own: { Self → FileCall → FileReply → Self → Type 0 };
+
     /// Reads up to n bytes by at most one transfer; without a size as many as the buffer holds, and of a stream in memory all.
     ///
     /// `None`: the raw would have blocked before any byte.
     fn read1(&mut self, alloc: Global, size: Option<usize>) -> Result<Option<Vec<u8>>, IoFault>
-        ensures { AnswersAsBuffer (shows self.old) (Read1 size) (bytes_reply result) (shows self.new) };
+        ensures buffer { AnswersAsBuffer (shows self.old) (Read1 size) (bytes_reply result) (shows self.new) }
+        ensures own { own self.old (Read1 size) (bytes_reply result) self.new };
 
     /// Writes all bytes at the place, and answers how many there are. `WouldBlock`: as many were taken as it says.
     fn write(&mut self, bytes: &[u8]) -> Result<usize, IoFault>
-        ensures { AnswersAsBuffer (shows self.old) (Write bytes.now) (count_reply result) (shows self.new) };
+        ensures buffer { AnswersAsBuffer (shows self.old) (Write bytes.now) (count_reply result) (shows self.new) }
+        ensures own { own self.old (Write bytes.now) (count_reply result) self.new };
 
     /// Moves by an offset from the start (0), the place (1) or the end (2), and answers the new place.
     fn seek(&mut self, offset: i64, whence: i32) -> Result<u64, IoFault>
-        ensures { AnswersAsBuffer (shows self.old) (Seek offset whence) (place_reply result) (shows self.new) };
+        ensures buffer { AnswersAsBuffer (shows self.old) (Seek offset whence) (place_reply result) (shows self.new) }
+        ensures own { own self.old (Seek offset whence) (place_reply result) self.new };
 
     /// The place, without asking a raw.
     fn tell(&mut self) -> Result<u64, IoFault>
@@ -42,11 +48,13 @@ pub trait BufferedStream {
 
     /// Passes on what is owed.
     fn flush(&mut self) -> Result<(), IoFault>
-        ensures { AnswersAsBuffer (shows self.old) Flush (done_reply result) (shows self.new) };
+        ensures buffer { AnswersAsBuffer (shows self.old) Flush (done_reply result) (shows self.new) }
+        ensures own { own self.old Flush (done_reply result) self.new };
 
     /// Passes on what is owed, and closes the stream. A closed one stays so.
     fn close(&mut self) -> Result<(), IoFault>
-        ensures { AnswersAsBuffer (shows self.old) Close (done_reply result) (shows self.new) };
+        ensures buffer { AnswersAsBuffer (shows self.old) Close (done_reply result) (shows self.new) }
+        ensures own { own self.old Close (done_reply result) self.new };
 
     /// Whether the stream can be read.
     fn readable(&self) -> bool

@@ -15,6 +15,8 @@ use std::alloc::Global;
 impl BufferedStream for BytesIO {
     ghost shows = { as_buffer };
 
+    ghost own = { λ old call reply new. AnswersInMemory (is_lent old) old.file call reply new.file × (new.exports ≡ old.exports) };
+
     fn read1(&mut self, alloc: Global, size: Option<usize>) -> Result<Option<Vec<u8>>, IoFault>
         ensures answers { AnswersAsBuffer (as_buffer self.old) (Read1 size) (bytes_reply result) (as_buffer self.new) }
         ensures exact { AnswersInMemory (is_lent self.old) self.old.file (Read1 size) (bytes_reply result) self.new.file }

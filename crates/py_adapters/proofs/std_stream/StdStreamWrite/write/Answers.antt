@@ -10,4 +10,4 @@ returns-clause-bytes g c =
       | in-Ok w ↦ says_taken _ _ _ _ w.in-Ok.is w.result-is
       | in-Err w ↦ says_cut _ _ _ _ _ _ w.in-Err.is w.taken.ensures w.result-is w.io_refused_write.ensures.says
     ] in
-    rw (← c.self.view_is) (appends (g.S.BufferedStream.shows c.self.inside.stream) after c.args.buf.now c.write.result c.match-write.result c.write.ensures says)
+    rw (← c.self.view_is) (appends (g.S.BufferedStream.shows c.self.inside.stream) after c.args.buf.now c.write.result c.match-write.result c.write.ensures.buffer says)

@@ -12,7 +12,7 @@ returns-in_err-count-clause-part g c =
 pub returns-in_err-count-clause-turns : goal.returns-in_err-count-clause-turns
 returns-in_err-count-clause-turns g c =
     let (done, split, appended, (parts, same, turns)) = c.loop-rest.invariant in
-    took_until c.args.buf.now done c.loop-rest.rest.now _ _ _ parts c.from_residual.result c.in_err-count.field-0.0 split same turns (search rules) (search rules) (refused_taking _ _ _ c.in_err-count.ensures.answers)
+    took_until g.S.BufferedStream.shows g.S.BufferedStream.own c.args.buf.now done c.loop-rest.rest.now _ _ _ parts c.from_residual.result c.in_err-count.field-0.0 split same turns (search rules) (search rules) (refused_taking _ _ _ c.in_err-count.ensures.answers)
 
 pub returns-then-count-eq0-clause-part : goal.returns-then-count-eq0-clause-part
 returns-then-count-eq0-clause-part g c =
@@ -22,9 +22,9 @@ returns-then-count-eq0-clause-part g c =
 pub returns-then-count-eq0-clause-turns : goal.returns-then-count-eq0-clause-turns
 returns-then-count-eq0-clause-turns g c =
     let (done, split, appended, (parts, same, turns)) = c.loop-rest.invariant in
-    took_until c.args.buf.now done c.loop-rest.rest.now _ _ _ parts _ c.io_took_none.result split same turns (search rules) refl (taking_none _ _ _ _ (search rules) c.io_took_none.ensures c.in_ok-count.ensures.answers)
+    took_until g.S.BufferedStream.shows g.S.BufferedStream.own c.args.buf.now done c.loop-rest.rest.now _ _ _ parts _ c.io_took_none.result split same turns (search rules) refl (taking_none _ _ _ _ (search rules) c.io_took_none.ensures c.in_ok-count.ensures.answers)
 
 pub loop-rest-preserved : goal.loop-rest-preserved
 loop-rest-preserved g c =
     let (done, split, appended, (parts, same, turns)) = c.loop-rest.invariant in
-    (done ++ take c.in_ok-count.count c.loop-rest.rest.now, moves_front _ done c.loop-rest.rest.now c.in_ok-count.count split, Appends-trans _ _ _ _ _ appended c.in_ok-count.ensures.bytes, took_more c.args.buf.now done c.loop-rest.rest.now c.in_ok-count.count _ _ _ parts split same turns (search rules) (search rules) c.in_ok-count.ensures.answers)
+    (done ++ take c.in_ok-count.count c.loop-rest.rest.now, moves_front _ done c.loop-rest.rest.now c.in_ok-count.count split, Appends-trans _ _ _ _ _ appended c.in_ok-count.ensures.bytes, took_more g.S.BufferedStream.shows g.S.BufferedStream.own c.args.buf.now done c.loop-rest.rest.now c.in_ok-count.count _ _ _ parts split same turns (search rules) (search rules) c.in_ok-count.ensures.answers)

@@ -7,7 +7,7 @@ use Rattle.py_adapters.specs.Answers.{InTurn, TakesPart}
 use Rattle.py_adapters.proofs.std_stream.StdStreamWrite.write_all.Given as goal
 
 abbrev pub invariant-loop-rest : goal.invariant-loop-rest
-invariant-loop-rest g l = (done : List ℕ) × (l.initial.rest ≡ done ++ l.rest) × Appends (written_in (g.S.BufferedStream.shows l.initial.self)) (written_in (g.S.BufferedStream.shows l.self)) done × ((parts : List (List ℕ)) × (joined parts ≡ done) × InTurn (TakesPart l.initial.rest) 0 (g.S.BufferedStream.shows l.initial.self) parts (g.S.BufferedStream.shows l.self))
+invariant-loop-rest g l = (done : List ℕ) × (l.initial.rest ≡ done ++ l.rest) × Appends (written_in (g.S.BufferedStream.shows l.initial.self)) (written_in (g.S.BufferedStream.shows l.self)) done × ((parts : List (List ℕ)) × (joined parts ≡ done) × InTurn (TakesPart g.S.BufferedStream.shows g.S.BufferedStream.own l.initial.rest) 0 l.initial.self parts l.self)
 
 abbrev pub decreases-loop-rest : goal.decreases-loop-rest
 decreases-loop-rest g l = length l.rest

@@ -1,9 +1,13 @@
 use Rattle.std.proofs.Common.{◌∙◌}
 use Rattle.py_flat.specs.Calls.{Read1}
 use Rattle.py_stream.specs.Replies.{bytes_reply}
+use Rattle.py_stream.specs.Answers.{Answers}
 use Rattle.py_stream.specs.Buffer.{AnswersAsBuffer}
-use Rattle.py_buffered.proofs.Seen.{holds_shown}
+use Rattle.py_buffered.proofs.Seen.{holds_seen, holds_shown}
 use Rattle.py_buffered.proofs.buffered_over.BufferedOverBufferedStream.read1.Goals as goal
 
-pub returns : goal.returns
-returns g c = holds_shown g.K.BufferedKind.seen g.K.BufferedKind.stream g.K.BufferedKind.keeps_stream g.K.BufferedKind.taken g.K.BufferedKind.WRITES g.K.BufferedKind.keeps_taken (λ old new. AnswersAsBuffer old (Read1 c.args.size) (bytes_reply c.read1.result) new) c.self.inside.inner c.read1.new.self c.args.self.now c.self.view_is c.self.invariant.2 (λ no. c.read1.ensures.taken ∙ c.self.invariant.2 no) c.read1.ensures.answers
+pub returns-clause-buffer : goal.returns-clause-buffer
+returns-clause-buffer g c = holds_shown g.K.BufferedKind.seen g.K.BufferedKind.stream g.K.BufferedKind.keeps_stream g.K.BufferedKind.taken g.K.BufferedKind.WRITES g.K.BufferedKind.keeps_taken (λ old new. AnswersAsBuffer old (Read1 c.args.size) (bytes_reply c.read1.result) new) c.self.inside.inner c.read1.new.self c.args.self.now c.self.view_is c.self.invariant.2 (λ no. c.read1.ensures.taken ∙ c.self.invariant.2 no) c.read1.ensures.answers
+
+pub returns-clause-own : goal.returns-clause-own
+returns-clause-own g c = holds_seen g.K.BufferedKind.seen g.K.BufferedKind.stream g.K.BufferedKind.keeps_stream (λ old new. Answers old (Read1 c.args.size) (bytes_reply c.read1.result) new) c.self.inside.inner c.read1.new.self c.args.self.now c.self.view_is c.read1.ensures.own

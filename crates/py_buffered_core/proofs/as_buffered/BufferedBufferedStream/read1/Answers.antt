@@ -11,3 +11,8 @@ pub returns-else-reads-clause-answers : goal.returns-else-reads-clause-answers
 returns-else-reads-clause-answers g c =
     let lacks = unread c.self.inside.data c.self.inside.access c.self.inside.seekable c.self.inside.size c.args.size c.self.invariant (sym c.reads.ensures ∙ c.if-reads.false) in
     answers_so c.args.self.now c.refuse.new.self (Read1 c.args.size) (Refused c.refuse.result) c.place.ensures.unwritten refl (c.refuse.ensures.answers (Read1 c.args.size) (rw (← c.self.view_is) lacks)) c.refuse.ensures.taken
+
+pub returns-else-reads-clause-own : goal.returns-else-reads-clause-own
+returns-else-reads-clause-own g c =
+    let lacks = unread c.self.inside.data c.self.inside.access c.self.inside.seekable c.self.inside.size c.args.size c.self.invariant (sym c.reads.ensures ∙ c.if-reads.false) in
+    c.refuse.ensures.answers (Read1 c.args.size) (rw (← c.self.view_is) lacks)

@@ -18,3 +18,8 @@ returns-else-writes-clause-answers g c =
     let same : seen_of c.refuse.new.self ≡ record (seen_of c.args.self.now) { short = false } = rw (← c.self.view_is) c.refuse.ensures.same in
     answers_so c.args.self.now c.refuse.new.self (Write c.args.bytes.now) (Refused c.refuse.result) c.place.ensures.unwritten refl answers
     (c.refuse.ensures.taken ∙ takes_none (seen_of c.args.self.now) (seen_of c.refuse.new.self) c.args.self.now.taken c.args.bytes.now same)
+
+pub returns-else-writes-clause-own : goal.returns-else-writes-clause-own
+returns-else-writes-clause-own g c =
+    let lacks = unwritten c.self.inside.data c.self.inside.access c.self.inside.seekable c.self.inside.size c.args.bytes.now c.self.invariant (sym c.writes.ensures ∙ c.if-writes.false) in
+    rw (← c.self.view_is) (c.refuse.ensures.answers (Write c.args.bytes.now) lacks)

@@ -10,12 +10,12 @@ invariant_of-self g c =
     let writes = ap (λ (view : TextView). view.buffer.can.writable) c.self.view_is ∙ c.requires.writes in
     let place = ap (λ (view : TextView). view.buffer.place) c.self.view_is in
     let ahead = is_ahead _ c.self.inside.held _ c.self.inside.at _ _ _ live writes c.seekable.ensures.moves (λ same. c.if-buffer_place-self.false (c.buffer_place.ensures ∙ (sym place ∙ (sym c.self.invariant.stands ∙ same)))) c.self.invariant in
-    text_returned _ _ c.self.inside.held c.clear.new.self _ c.self.inside.at _ _ _ _ ahead (sought_at _ _ c.self.inside.held _ c.self.inside.at _ _ _ _ c.self.invariant c.in-Ok.ensures) (ap (λ (view : TextView). view.taken) c.self.view_is ∙ c.requires.clean.taken) (ap (λ (view : TextView). view.dirty) c.self.view_is ∙ c.requires.clean.dirty) c.clear.ensures.cleared c.self.invariant
+    text_returned _ _ c.self.inside.held c.clear.new.self _ c.self.inside.at _ _ _ _ ahead (sought_at _ _ c.self.inside.held _ c.self.inside.at _ _ _ _ c.self.invariant c.in-Ok.ensures.buffer) (ap (λ (view : TextView). view.taken) c.self.view_is ∙ c.requires.clean.taken) (ap (λ (view : TextView). view.dirty) c.self.view_is ∙ c.requires.clean.dirty) c.clear.ensures.cleared c.self.invariant
 
 pub invariant_of-self-in-Err : goal.invariant_of-self-in-Err
 invariant_of-self-in-Err g c =
     let live = ap (λ (view : TextView). view.buffer.life) c.self.view_is ∙ c.requires.live in
-    text_unreturned _ _ _ _ _ _ _ _ c.in-Err.fault live (sought_at _ _ _ _ _ _ _ _ _ c.self.invariant c.in-Err.ensures) c.self.invariant
+    text_unreturned _ _ _ _ _ _ _ _ c.in-Err.fault live (sought_at _ _ _ _ _ _ _ _ _ c.self.invariant c.in-Err.ensures.buffer) c.self.invariant
 
 pub returns-in-Err-clause-outcome : goal.returns-in-Err-clause-outcome
 returns-in-Err-clause-outcome g c =
@@ -23,10 +23,10 @@ returns-in-Err-clause-outcome g c =
     let writes = ap (λ (view : TextView). view.buffer.can.writable) c.self.view_is ∙ c.requires.writes in
     let place = ap (λ (view : TextView). view.buffer.place) c.self.view_is in
     let ahead = is_ahead _ c.self.inside.held _ c.self.inside.at _ _ _ live writes c.seekable.ensures.moves (λ same. c.if-buffer_place-self.false (c.buffer_place.ensures ∙ (sym place ∙ (sym c.self.invariant.stands ∙ same)))) c.self.invariant in
-    returned_so _ _ _ c.in-Err.fault c.self.view_is ahead refl (sought_at _ _ c.self.inside.held _ c.self.inside.at _ _ _ _ c.self.invariant c.in-Err.ensures)
+    returned_so _ _ _ c.in-Err.fault c.self.view_is ahead refl (sought_at _ _ c.self.inside.held _ c.self.inside.at _ _ _ _ c.self.invariant c.in-Err.ensures.buffer)
 
 pub returns-in-Err-clause-joined : goal.returns-in-Err-clause-joined
 returns-in-Err-clause-joined g c =
     let live = ap (λ (view : TextView). view.buffer.life) c.self.view_is ∙ c.requires.live in
     joined_of (record { buffer = _; held = c.self.inside.held; front = front_shown c.self.inside.inside; at = c.self.inside.at; taken = c.self.inside.taken; dirty = c.self.inside.dirty; settings = _ })
-    (text_unreturned _ _ _ _ _ _ _ _ c.in-Err.fault live (sought_at _ _ _ _ _ _ _ _ _ c.self.invariant c.in-Err.ensures) c.self.invariant)
+    (text_unreturned _ _ _ _ _ _ _ _ c.in-Err.fault live (sought_at _ _ _ _ _ _ _ _ _ c.self.invariant c.in-Err.ensures.buffer) c.self.invariant)
