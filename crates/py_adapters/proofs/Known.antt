@@ -173,7 +173,7 @@ moves_front own done left count split =
     split ∙ ap (λ (xs : List ℕ). done ++ xs) (sym (take-append-drop count left)) ∙ sym (append_assoc done (take count left) (drop count left)) ∙ ap (λ (xs : List ℕ). (done ++ take count left) ++ xs) (sym (take_rest left count))
 
 -- a part up to a buffer's end, once it was written, is what stands there
-part_put : (own new : List ℕ) (start : ℕ) → start ≤ length own → drop start (put_mid start (length own - start) own new) ≡ new
+pub part_put : (own new : List ℕ) (start : ℕ) → start ≤ length own → drop start (put_mid start (length own - start) own new) ≡ new
 part_put own new start within =
     drop_at (take start own) (new ++ drop (length own - start) (drop start own)) start (length-take-le start own within) ∙ ap (λ (xs : List ℕ). new ++ xs) (drop_all (length own - start) (drop start own) (omega (arith, length-drop start own))) ∙ append-nil new
 

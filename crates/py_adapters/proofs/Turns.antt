@@ -10,8 +10,8 @@ use Rattle.py_flat.specs.Calls.{FileCall, FileReply, Write}
 use Rattle.py_stream.specs.Replies.{into_reply, count_reply}
 use Rattle.py_stream.specs.Buffer.{Buffer}
 use borrow.Rule.Slice.PartMut.{put_mid}
-use Rattle.py_adapters.specs.Answers.{AnsweredBy, MadeBy, SaysRead, SaysWritten, InTurn, MovesInTurn, GivesPart, SaysEnded, EndsReading, TakesPart, SaysTookNone, EndsWriting}
-use Rattle.py_adapters.proofs.Known.{front_put, front_stays}
+use Rattle.py_adapters.specs.Answers.{AnsweredBy, MadeBy, SaysRead, SaysWritten, InTurn, MovesInTurn, FillsInTurn, GivesPart, SaysEnded, EndsReading, TakesPart, SaysTookNone, EndsWriting}
+use Rattle.py_adapters.proofs.Known.{part_put, front_put, front_stays}
 
 -- the bytes of a part behind others
 pub joined_on : (parts : List (List ℕ)) (part : List ℕ) → joined (parts ++ (part ∷ [])) ≡ joined parts ++ part
@@ -88,29 +88,35 @@ came_more answers size start asked count before mid after own new came within is
     }
 
 -- all that was asked for came
-pub all_came : {Own : Type 0} (answers : Own → ℕ → FileReply → Own → Type 0) (size at : ℕ) (before after : Own) (space : List ℕ) (result : Result (Unit {0}) Error) → CameInTurn answers size at before space after → at ≡ size → size ≡ length space → result ≡ Ok tt → MovesInTurn (GivesPart answers size) (EndsReading answers size) space before result after
-all_came answers size at before after space result came is same says =
+pub all_came : {Own : Type 0} (answers : Own → ℕ → FileReply → Own → Type 0) (size at : ℕ) (before after : Own) (space was : List ℕ) (result : Result (Unit {0}) Error) → CameInTurn answers size at before space after → at ≡ size → size ≡ length space → drop at space ≡ drop at was → result ≡ Ok tt → FillsInTurn answers size was space before result after
+all_came answers size at before after space was result came is same stays says =
     let many : length (joined came.parts) ≡ at = many_came came.parts at space (omega (arith, is, same)) came.front in
     record {
-      parts = came.parts;
-      front = ap (λ (count : ℕ). take count space) many ∙ sym came.front;
-      mid = after;
-      turns = came.turns;
-      ends = rw says ((many ∙ is), refl);
+      by = record {
+        parts = came.parts;
+        front = ap (λ (count : ℕ). take count space) many ∙ sym came.front;
+        mid = after;
+        turns = came.turns;
+        ends = rw says ((many ∙ is), refl);
+      };
+      behind = subst (λ (count : ℕ). drop count space ≡ drop count was) (sym many) stays;
     }
 
 -- a reading that gave none ended it
-pub came_until : {Own : Type 0} (answers : Own → ℕ → FileReply → Own → Type 0) (size start asked : ℕ) (before mid after : Own) (own new : List ℕ) (result : Result (Unit {0}) Error) (error : Error) → CameInTurn answers size start before own mid → start < size → size ≡ length own → asked ≡ size - start → result ≡ Err error → AnsweredBy (λ (came : Result (Option ℕ) IoFault). answers mid asked (into_reply came new) after) (λ (came : Result (Option ℕ) IoFault). SaysEnded came error) → MovesInTurn (GivesPart answers size) (EndsReading answers size) (put_mid start (length own - start) own new) before result after
-came_until answers size start asked before mid after own new result error came less same is says by =
+pub came_until : {Own : Type 0} (answers : Own → ℕ → FileReply → Own → Type 0) (size start asked : ℕ) (before mid after : Own) (own new was : List ℕ) (result : Result (Unit {0}) Error) (error : Error) → CameInTurn answers size start before own mid → start < size → size ≡ length own → asked ≡ size - start → drop start own ≡ drop start was → new ≡ drop start own → result ≡ Err error → AnsweredBy (λ (came : Result (Option ℕ) IoFault). answers mid asked (into_reply came new) after) (λ (came : Result (Option ℕ) IoFault). SaysEnded came error) → FillsInTurn answers size was (put_mid start (length own - start) own new) before result after
+came_until answers size start asked before mid after own new was result error came less same is stays kept says by =
     let within : start ≤ length own = omega (arith, less, same) in
     let many : length (joined came.parts) ≡ start = many_came came.parts start own within came.front in
     let whole : List ℕ = put_mid start (length own - start) own new in
     record {
-      parts = came.parts;
-      front = ap (λ (count : ℕ). take count whole) many ∙ (front_stays own new start within ∙ sym came.front);
-      mid = mid;
-      turns = came.turns;
-      ends = rw says (omega (arith, many, less), record { came = by.came; answered = ended_reply answers asked (size - length (joined came.parts)) mid after new by.came error (omega (arith, is, many)) by.answered by.said; said = by.said });
+      by = record {
+        parts = came.parts;
+        front = ap (λ (count : ℕ). take count whole) many ∙ (front_stays own new start within ∙ sym came.front);
+        mid = mid;
+        turns = came.turns;
+        ends = rw says (omega (arith, many, less), record { came = by.came; answered = ended_reply answers asked (size - length (joined came.parts)) mid after new by.came error (omega (arith, is, many)) by.answered by.said; said = by.said });
+      };
+      behind = subst (λ (count : ℕ). drop count whole ≡ drop count was) (sym many) (part_put own new start within ∙ (kept ∙ stays));
     }
 
 -- a reading that was refused, or gave none, by what it said

@@ -91,6 +91,11 @@ abbrev pub EndsReading : {Own : Type 0} (answers : Own → ℕ → FileReply →
 EndsReading answers size done before (Ok all) after = (done ≡ size) × (after ≡ before)
 EndsReading answers size done before (Err error) after = (done < size) × AnsweredBy (λ came. answers before (size - done) (into_reply came []) after) (λ came. SaysEnded came error)
 
+-- readings of a size, one after the other, whose bytes stand at the front of a buffer; what it has after them stays
+pub record FillsInTurn {Own : Type 0} (answers : Own → ℕ → FileReply → Own → Type 0) (size : ℕ) (was now : List ℕ) (before : Own) (result : Result (Unit {0}) Error) (after : Own) : Type 0 where
+  pub by : MovesInTurn (GivesPart answers size) (EndsReading answers size) now before result after
+  pub behind : drop (length (joined by.parts)) now ≡ drop (length (joined by.parts)) was
+
 -- a write of what is left of some bytes took these
 abbrev pub TakesPart : {Own : Type 0} (shows : Own → Buffer) (own : Own → FileCall → FileReply → Own → Type 0) (all : List ℕ) → ℕ → Own → List ℕ → Own → Type 0
 TakesPart shows own all done before part after = AnsweredBy (λ came. MadeBy shows own before (Write (drop done all)) (count_reply came) after) (λ came. SaysWritten came (shows after).taken (Ok (length part)))

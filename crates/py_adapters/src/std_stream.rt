@@ -61,7 +61,7 @@ impl<S: ReadOnce> Read for StdStream<S> {
     ghost use Rattle.std.specs.Io.KnownBytes.{Consumes, ReadConsumes};
     ghost use Rattle.py_stream.specs.Replies.{into_reply};
     ghost use Rattle.py_adapters.specs.Known.{GivesFront};
-    ghost use Rattle.py_adapters.specs.Answers.{AnsweredBy, SaysRead, LeavesBehind, MovesInTurn, GivesPart, EndsReading, IsntInterrupted};
+    ghost use Rattle.py_adapters.specs.Answers.{AnsweredBy, SaysRead, LeavesBehind, FillsInTurn, IsntInterrupted};
 
     ghost remaining = { λ stream. S.left stream };
 
@@ -92,7 +92,7 @@ impl<S: ReadOnce> Read for StdStream<S> {
     fn read_exact(&mut self, buf: &mut [u8]) -> io::Result<()>
         ensures bytes { OnOk result (Consumes (S.left self.old) (S.left self.new) buf.new) }
         ensures part { IfErr result (λ error. GivesFront (S.left self.old) buf.old buf.new (S.left self.new)) }
-        ensures turns { MovesInTurn (GivesPart S.answers (length buf.old)) (EndsReading S.answers (length buf.old)) buf.new self.old result self.new }
+        ensures turns { FillsInTurn S.answers (length buf.old) buf.old buf.new self.old result self.new }
         ensures retried { IsntInterrupted result }
     {
         let mut at = 0;

@@ -10,10 +10,48 @@ use std::io::{Read, Write};
 
 /// A stream whose raw fails once it is written to.
 fn failing_writer(alloc: Global) -> Result<StdStream<BufferedWriter<MemRaw>>> {
+    writer_by(alloc, &[Cut::Break(1)])
+}
+
+/// A stream with a buffer of 8 bytes, whose raw takes what is written as a plan says.
+fn writer_by(alloc: Global, plan: &[Cut]) -> Result<StdStream<BufferedWriter<MemRaw>>> {
     let flags = RawFlags::able(false, true, false); // it can be written
-    let plan = [Cut::Break(1)].to_vec(alloc)?;
+    let plan = plan.to_vec(alloc)?;
     let raw = MemRaw::new(Vec::new(alloc), flags, plan, Vec::new(alloc));
     Ok(StdStream::new(BufferedWriter::new(alloc, raw, 8)?))
+}
+
+/// A write that a fault cuts short, the one behind it, and a write of all bytes that has to wait.
+pub(crate) fn cut_short(alloc: Global) -> Result<String> {
+    let mut failing = writer_by(alloc, &[Cut::Take(3), Cut::Break(0)])?;
+    let some = failing.write(b"abcdefghijkl"); // Ok(3): the raw failed then
+    let after = failing.write(b"m"); // which the next call tells
+    let mut waiting = writer_by(alloc, &[Cut::Wait, Cut::Wait])?;
+    let whole = waiting.write_all(b"abcdefghijkl"); // some were taken: how many, the stream tells
+    let owed = waiting.into_inner().into_parts();
+    shown_cut(
+        alloc,
+        some,
+        after,
+        whole,
+        owed.map(|parts| parts.unwritten.len()),
+    )
+}
+
+/// How many bytes were taken, what the errors say, and how many bytes are owed.
+fn shown_cut(
+    alloc: Global,
+    some: io::Result<usize>,
+    after: io::Result<usize>,
+    whole: io::Result<()>,
+    owed: Option<usize>,
+) -> Result<String> {
+    match (some, after, whole) {
+        (Ok(some), Err(after), Err(wait)) => {
+            Ok(format!(in alloc; "cut short: {some} bytes; {after}; {wait}, owed: {owed:?}")?)
+        }
+        _ => Ok(String::from_str(alloc, "cut short: no")?),
+    }
 }
 
 /// A stream whose raw failed, that is failed from then on; and one that was closed.

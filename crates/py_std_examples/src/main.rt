@@ -26,9 +26,11 @@ fn main(rt: HostRuntime) -> Result<()> {
     print(&rt, waits::exactly(alloc))?;
     print(&rt, waits::written_over_waits(alloc))?;
     print(&rt, places::replaced(alloc))?;
+    print(&rt, places::among(alloc))?;
     print(&rt, places::refused(alloc))?;
     print(&rt, faults::failed(alloc))?;
     print(&rt, faults::waited(alloc))?;
+    print(&rt, faults::cut_short(alloc))?;
     print(&rt, places::pieces(alloc))?;
     print(&rt, coded::numbers(alloc))?;
     print(&rt, coded::decoded(alloc))?;

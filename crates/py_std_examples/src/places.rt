@@ -1,7 +1,7 @@
 //! Bytes in memory, by std's calls.
 use anyhow::Result;
 use py_adapters::StdStream;
-use py_buffered::BufferedReader;
+use py_buffered::{BufferedRandom, BufferedReader};
 use py_memio::BytesIO;
 use py_raw::RawFlags;
 use py_raw_memory::MemRaw;
@@ -30,6 +30,35 @@ fn lent_replaced(stream: &mut StdStream<BytesIO>, all: &mut String) -> io::Resul
 fn shown_replaced(alloc: Global, counts: io::Result<(u64, usize)>, all: &str) -> Result<String> {
     let (place, count) = counts?;
     Ok(format!(in alloc; "replaced at {place}: {count} bytes, {all:?}")?)
+}
+
+/// A stream that is read and written is moved from where it stands, and written over.
+pub(crate) fn among(alloc: Global) -> Result<String> {
+    let flags = RawFlags::able(true, true, true);
+    let bytes = b"one two".to_vec(alloc)?;
+    let raw = MemRaw::new(bytes, flags, Vec::new(alloc), Vec::new(alloc));
+    let mut stream = StdStream::new(BufferedRandom::new(alloc, raw, 8)?);
+    let mut space = [0u8; 3];
+    let places = lent_among(&mut stream, &mut space);
+    shown_among(alloc, places, &space)
+}
+
+/// The calls of `among`, of a stream that is lent.
+fn lent_among(
+    stream: &mut StdStream<BufferedRandom<MemRaw>>,
+    space: &mut [u8],
+) -> io::Result<(u64, u64)> {
+    stream.seek_relative(4)?;
+    stream.read_exact(space)?; // "two"
+    let back = stream.seek(SeekFrom::Current(-3))?;
+    stream.write_all(b"TWO")?;
+    Ok((back, stream.stream_position()?))
+}
+
+/// Where the stream was moved to, where it stood in the end, and what it read.
+fn shown_among(alloc: Global, places: io::Result<(u64, u64)>, space: &[u8]) -> Result<String> {
+    let (back, end) = places?;
+    Ok(format!(in alloc; "among: {back} {end} {space:?}")?)
 }
 
 /// What refuses a write of a reader, and a seek past every place.

@@ -23,7 +23,7 @@ returns-in_err-count-clause-turns g c =
     let start = c.loop-at.at in
     let own = c.loop-at.buf in
     let part = take_all (length own - start) (drop start own) (omega (arith, length-drop start own)) in
-    came_until g.S.ReadOnce.answers (length c.args.buf.now) start _ c.args.self.now c.loop-at.self c.read.new.self own c.read.new.buf c.from_residual.result c.in_err-count.field-0.0 c.loop-at.invariant.4 (search rules) (sym c.loop-at.invariant.0) (ap length part ∙ (length-drop start own ∙ ap (λ n. n - start) c.loop-at.invariant.0)) (search rules)
+    came_until g.S.ReadOnce.answers (length c.args.buf.now) start _ c.args.self.now c.loop-at.self c.read.new.self own c.read.new.buf c.args.buf.now c.from_residual.result c.in_err-count.field-0.0 c.loop-at.invariant.4 (search rules) (sym c.loop-at.invariant.0) (ap length part ∙ (length-drop start own ∙ ap (λ n. n - start) c.loop-at.invariant.0)) c.loop-at.invariant.2 (c.in_err-count.ensures.behind ∙ part) (search rules)
     (ended_error _ _ c.in_err-count.ensures.answers)
 
 pub returns-then-count-eq0-clause-turns : goal.returns-then-count-eq0-clause-turns
@@ -31,9 +31,9 @@ returns-then-count-eq0-clause-turns g c =
     let start = c.loop-at.at in
     let own = c.loop-at.buf in
     let part = take_all (length own - start) (drop start own) (omega (arith, length-drop start own)) in
-    came_until g.S.ReadOnce.answers (length c.args.buf.now) start _ c.args.self.now c.loop-at.self c.read.new.self own c.read.new.buf _ c.io_ended.result c.loop-at.invariant.4 (search rules) (sym c.loop-at.invariant.0) (ap length part ∙ (length-drop start own ∙ ap (λ n. n - start) c.loop-at.invariant.0)) refl
+    came_until g.S.ReadOnce.answers (length c.args.buf.now) start _ c.args.self.now c.loop-at.self c.read.new.self own c.read.new.buf c.args.buf.now _ c.io_ended.result c.loop-at.invariant.4 (search rules) (sym c.loop-at.invariant.0) (ap length part ∙ (length-drop start own ∙ ap (λ n. n - start) c.loop-at.invariant.0)) c.loop-at.invariant.2 (rw c.if-count-eq0.true at c.in_ok-count.ensures.behind ∙ part) refl
     (ended_none _ _ _ c.if-count-eq0.true c.io_ended.ensures c.in_ok-count.ensures.answers)
 
 pub returns-clause-turns : goal.returns-clause-turns
 returns-clause-turns g c =
-    all_came g.S.ReadOnce.answers (length c.args.buf.now) c.loop-at.at c.args.self.now c.loop-at.self c.loop-at.buf _ c.loop-at.invariant.4 (omega (arith, c.loop-at-test.false, c.loop-at.invariant.0, c.loop-at.invariant.1)) (sym c.loop-at.invariant.0) refl
+    all_came g.S.ReadOnce.answers (length c.args.buf.now) c.loop-at.at c.args.self.now c.loop-at.self c.loop-at.buf c.args.buf.now _ c.loop-at.invariant.4 (omega (arith, c.loop-at-test.false, c.loop-at.invariant.0, c.loop-at.invariant.1)) (sym c.loop-at.invariant.0) c.loop-at.invariant.2 refl
