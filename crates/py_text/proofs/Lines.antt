@@ -68,6 +68,7 @@ ended-long coder newline text run true left cut is = (
 
 -- a CR has as many bytes as an LF
 cr-as-long : (handler : Handler) (encoding : Encoding) → len (character_bytes handler encoding cr) ≡ len (character_bytes handler encoding lf)
+unfolding encode_utf8
 cr-as-long handler Utf8 = refl
 cr-as-long handler Latin1 = refl
 cr-as-long handler Ascii = refl
