@@ -32,18 +32,26 @@ pub(crate) struct Outcome {
 
 /// Runs a case beside the plain code: each answer, what a fault leaves, and what is handed back in the end.
 pub(crate) fn run_beside(alloc: Global, case: &SessionCase<'_>) -> Result<Outcome> {
+    let mut plain = plain_of(alloc, case)?;
     match open(alloc, case)? {
-        Ok(opened) => follow(alloc, case, opened),
-        Err(NewRefused { raw, fault }) => {
-            let is_told = fault == IoFault::RawFault && raw.fault_count() == 1;
-            let spares = raw.bytes_of() == case.bytes.as_slice();
-            let differs = match is_told && spares {
-                true => None,
-                false => Some(format!(in alloc; "the opening is refused: {fault}")?),
-            };
-            Ok(outcome_of(&raw, differs))
-        }
+        Ok(opened) => follow(alloc, case, opened, &mut plain),
+        Err(refused) => refused_outcome(alloc, case, &refused),
     }
+}
+
+/// What a refused opening comes to: only a fault of the raw refuses it, which spares the bytes.
+fn refused_outcome(
+    alloc: Global,
+    case: &SessionCase<'_>,
+    refused: &NewRefused<MemRaw>,
+) -> Result<Outcome> {
+    let is_told = refused.fault == IoFault::RawFault && refused.raw.fault_count() == 1;
+    let spares = refused.raw.bytes_of() == case.bytes.as_slice();
+    let differs = match is_told && spares {
+        true => None,
+        false => Some(format!(in alloc; "the opening is refused: {}", refused.fault)?),
+    };
+    Ok(outcome_of(&refused.raw, differs))
 }
 
 fn outcome_of(raw: &MemRaw, differs: Option<String>) -> Outcome {
@@ -68,30 +76,53 @@ struct End<'a> {
     shorts: u64,
 }
 
-/// Makes the calls up to one that a fault answers, and ends the run.
-fn follow(alloc: Global, case: &SessionCase<'_>, opened: Opened) -> Result<Outcome> {
+/// Makes the calls up to one that a fault answers, and ends the run. Nothing of a session is in hand where a `?` stands: the proof of each
+/// would have that all of it may be dropped.
+fn follow(
+    alloc: Global,
+    case: &SessionCase<'_>,
+    opened: Opened,
+    plain: &mut Plain,
+) -> Result<Outcome> {
     let mut opened = opened;
-    let mut plain = plain_of(alloc, case)?;
     let mut end = End {
         failed: None,
         closes: false,
         passes: false,
         shorts: 0,
     };
-    let mut differs = None;
+    let made = make_calls(alloc, case, &mut opened, plain, &mut end);
+    let is_left = end
+        .failed
+        .is_none_or(|call| is_left_by_a_fault(alloc, &mut opened, call));
+    end.closes = end.failed.is_none() && opened.life() == Life::Closed;
+    let handed = hand_over(alloc, opened, case.detaches && end.failed.is_some());
+    match made {
+        Ok(differs) => settle(alloc, case, &handed, plain, end, is_left, differs),
+        Err(error) => Err(error),
+    }
+}
+
+/// Makes the calls up to one that a fault answers, or whose answer isn't as the plain code has it: what of that differs.
+fn make_calls<'a>(
+    alloc: Global,
+    case: &'a SessionCase<'_>,
+    opened: &mut Opened,
+    plain: &mut Plain,
+    end: &mut End<'a>,
+) -> Result<Option<String>> {
     for call in &case.calls {
         let reply = opened.call(alloc, call);
-        let short = opened.short();
         if reply.says_fault() {
             end.failed = Some(call);
-            break;
+            return Ok(None);
         }
-        differs = difference(alloc, &mut plain, &mut end, call, &reply, short)?;
-        if differs.is_some() {
-            break;
+        let differs = difference(alloc, plain, end, call, &reply, opened.short());
+        if !matches!(differs, Ok(None)) {
+            return differs;
         }
     }
-    settle(alloc, case, opened, plain, end, differs)
+    Ok(None)
 }
 
 /// What of an answer isn't as the plain code has it, which goes on by it.
@@ -115,27 +146,23 @@ fn difference(
     Ok(Some(format!(in alloc; "{reply:?} to {call:?}, short: {short}")?))
 }
 
-/// Ends a run, and compares what is handed back then where nothing differs so far.
+/// Compares what is handed back in the end, where nothing differs so far.
 fn settle(
     alloc: Global,
     case: &SessionCase<'_>,
-    opened: Opened,
-    plain: Plain,
+    handed: &Detached<MemRaw>,
+    plain: &mut Plain,
     end: End<'_>,
+    is_left: bool,
     differs: Option<String>,
 ) -> Result<Outcome> {
-    let mut opened = opened;
-    let mut plain = plain;
-    let mut end = end;
-    let mut differs = differs;
-    let is_left = end
-        .failed
-        .is_none_or(|call| is_left_by_a_fault(alloc, &mut opened, call));
-    end.closes = end.failed.is_none() && opened.life() == Life::Closed;
-    let handed = hand_over(alloc, opened, case.detaches && end.failed.is_some())?;
-    if differs.is_none() && !(is_left && ends(alloc, case, &handed, &mut plain, end)?) {
-        differs = Some(String::from_str(alloc, "what is left in the end")?);
+    if differs.is_some() {
+        return Ok(outcome_of(&handed.raw, differs));
     }
+    let differs = match is_left && ends(alloc, case, handed, plain, end)? {
+        true => None,
+        false => Some(String::from_str(alloc, "what is left in the end")?),
+    };
     Ok(outcome_of(&handed.raw, differs))
 }
 
@@ -208,22 +235,22 @@ fn is_left_by_a_fault(alloc: Global, opened: &mut Opened, failed: &Call) -> bool
 }
 
 /// What a session hands back at the end, or by a detach; no place where the detach answers otherwise, or leaves more after.
-fn hand_over(alloc: Global, opened: Opened, detaches: bool) -> Result<Detached<MemRaw>> {
+fn hand_over(alloc: Global, opened: Opened, detaches: bool) -> Detached<MemRaw> {
     if !detaches {
-        return Ok(opened.finish());
+        return opened.finish();
     }
     let mut opened = opened;
     let reply = opened.call(alloc, &Call::Detach);
     let mut handed = opened.finish();
     let leaves_more = handed.place.is_some() || !handed.unwritten.is_empty();
-    match &reply {
+    match reply {
         Reply::Unwritten { bytes, place } if !leaves_more => {
-            handed.unwritten = Vec::from_slice(alloc, bytes.as_slice())?;
-            handed.place = *place;
+            handed.unwritten = bytes.into_vec();
+            handed.place = place;
         }
         _ => handed.place = None,
     }
-    Ok(handed)
+    handed
 }
 
 /// Whether the end is as the plain code has it: each fault and each wait was told, the raw is closed where a close closed it, and no

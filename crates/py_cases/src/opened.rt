@@ -98,35 +98,114 @@ fn set_up(raw: &mut MemRaw, place: u64, closes: bool) -> bool {
     is_moved && (!closes || !raw.closed() && raw.close().is_ok())
 }
 
-/// Opens the session of a case.
+/// How a session is opened.
+#[derive(Drop)]
+enum Way {
+    /// As a plan opens it, by these arguments.
+    Planned(OpenArgs),
+    /// As a text with a buffer, and chunks, of such sizes.
+    Text { size: usize, chunk: usize },
+    /// As a stream of bytes with a buffer of a size.
+    Bytes { size: usize, access: Access },
+}
+
+/// Opens the session of a case. How it is opened is known before there is a raw, so that no `?` stands where one is in hand: the proof of
+/// each would have that it may be dropped.
 pub(crate) fn open(alloc: Global, case: &SessionCase<'_>) -> Result<Opening> {
+    let way = way_of(alloc, case)?;
+    let mut raw = raw_of(alloc, case)?;
+    if !set_up(&mut raw, case.at as u64, case.closed) || !stands_at_start(&raw) {
+        return case.open.malformed();
+    }
+    Ok(open_so(alloc, case.mode, way, raw))
+}
+
+/// The raw of a case.
+fn raw_of(alloc: Global, case: &SessionCase<'_>) -> Result<MemRaw> {
     let able = |letter: char| case.able.contains(letter);
-    let mut raw = MemRaw::new(
+    Ok(MemRaw::new(
         Vec::from_slice(alloc, case.bytes.as_slice())?,
         RawFlags::able(able('r'), able('w'), able('s')),
         Vec::from_slice(alloc, case.cuts.as_slice())?,
         Vec::from_slice(alloc, case.faults.as_slice())?,
-    );
-    if !set_up(&mut raw, case.at as u64, case.closed) || !stands_at_start(&raw) {
-        return case.open.malformed();
-    }
+    ))
+}
+
+/// How a case is opened.
+fn way_of(alloc: Global, case: &SessionCase<'_>) -> Result<Way> {
     match case.buffer {
-        None => open_planned(alloc, case, raw),
-        Some(size) if case.mode == "r" => open_text(alloc, case, raw, size),
-        Some(size) => open_bytes(alloc, case, raw, size),
+        None => planned_way(alloc, case),
+        Some(size) if case.mode == "r" => text_way(case, size),
+        Some(size) => bytes_way(case, size),
     }
 }
 
-fn open_planned(alloc: Global, case: &SessionCase<'_>, raw: MemRaw) -> Result<Opening>
-    requires { StandsAtStart (shown raw) }
-{
+/// As a plan opens it, by the words of a command line.
+fn planned_way(alloc: Global, case: &SessionCase<'_>) -> Result<Way> {
     let words = words_of(alloc, case)?;
     match args_of(alloc, &words)? {
-        Some(args) => Ok(open_by(alloc, case.mode, args, raw)),
+        Some(args) => Ok(Way::Planned(args)),
         None => case.open.malformed(),
     }
 }
 
+/// As a text with a buffer of n bytes, and chunks of a size that is its only option.
+fn text_way(case: &SessionCase<'_>, size: usize) -> Result<Way> {
+    let chunk = match case.options.as_slice() {
+        [option] => case
+            .open
+            .number(option.strip_prefix("chunk=").unwrap_or(""))?,
+        _ => return case.open.malformed(),
+    };
+    if size == 0 || chunk == 0 {
+        return case.open.malformed();
+    }
+    Ok(Way::Text { size, chunk })
+}
+
+/// As a stream of bytes with a buffer of n bytes.
+fn bytes_way(case: &SessionCase<'_>, size: usize) -> Result<Way> {
+    let access = match case.mode {
+        "rb" => Access::Read,
+        "wb" | "xb" => Access::Write,
+        "ab" => Access::Append,
+        "rb+" | "wb+" | "xb+" => Access::Update,
+        _ => return case.open.malformed(),
+    };
+    Ok(Way::Bytes { size, access })
+}
+
+/// Opens a session over a raw.
+fn open_so(alloc: Global, mode: &str, way: Way, raw: MemRaw) -> Opening
+    requires { StandsAtStart (shown raw) }
+{
+    match way {
+        Way::Planned(args) => open_by(alloc, mode, args, raw),
+        Way::Text { size, chunk } => open_text(alloc, raw, size, chunk),
+        Way::Bytes { size, access } => {
+            BinarySession::new(alloc, raw, access, Some(size)).map(Opened::Bytes)
+        }
+    }
+}
+
+/// Opens a text with a buffer and chunks of such sizes.
+fn open_text(alloc: Global, raw: MemRaw, size: usize, chunk: usize) -> Opening
+    requires { StandsAtStart (shown raw) }
+{
+    let coder = Coder {
+        encoding: Encoding::Utf8,
+        errors: Handler::Strict,
+    };
+    let settings = TextSettings {
+        newline: Newlines::Lf,
+        line_buffering: false,
+        write_through: false,
+        chunk_size: chunk,
+    };
+    TextSession::new(alloc, raw, Access::Read, size, coder, settings).map(Opened::Text)
+}
+
+/// Opens a session by a mode and arguments.
 fn open_by(alloc: Global, mode: &str, args: OpenArgs, raw: MemRaw) -> Opening
     requires { StandsAtStart (shown raw) }
 {
@@ -169,44 +248,4 @@ fn args_of(alloc: Global, words: &[String]) -> Result<Option<OpenArgs>> {
         ) => Ok(Some(args)),
         _ => Ok(None),
     }
-}
-
-/// Opens a text with a buffer of n bytes, and chunks of a size that is its only option.
-fn open_text(alloc: Global, case: &SessionCase<'_>, raw: MemRaw, size: usize) -> Result<Opening>
-    requires { StandsAtStart (shown raw) }
-{
-    let chunk = match case.options.as_slice() {
-        [option] => case
-            .open
-            .number(option.strip_prefix("chunk=").unwrap_or(""))?,
-        _ => return case.open.malformed(),
-    };
-    if size == 0 || chunk == 0 {
-        return case.open.malformed();
-    }
-    let coder = Coder {
-        encoding: Encoding::Utf8,
-        errors: Handler::Strict,
-    };
-    let settings = TextSettings {
-        newline: Newlines::Lf,
-        line_buffering: false,
-        write_through: false,
-        chunk_size: chunk,
-    };
-    Ok(TextSession::new(alloc, raw, Access::Read, size, coder, settings).map(Opened::Text))
-}
-
-/// Opens a stream of bytes with a buffer of n bytes.
-fn open_bytes(alloc: Global, case: &SessionCase<'_>, raw: MemRaw, size: usize) -> Result<Opening>
-    requires { StandsAtStart (shown raw) }
-{
-    let access = match case.mode {
-        "rb" => Access::Read,
-        "wb" | "xb" => Access::Write,
-        "ab" => Access::Append,
-        "rb+" | "wb+" | "xb+" => Access::Update,
-        _ => return case.open.malformed(),
-    };
-    Ok(BinarySession::new(alloc, raw, access, Some(size)).map(Opened::Bytes))
 }

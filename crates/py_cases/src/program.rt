@@ -100,7 +100,13 @@ fn run(case: ProgramCase<'_>, report: &mut Report) -> Result<()> {
         str::from_utf8(sink.written()).unwrap_or("(no UTF-8)"),
         report,
     )?;
-    for path in &case.paths {
+    report_paths(&opener, &case.paths, report)?;
+    report_counts(&opener, &source, &sink, report)
+}
+
+/// Reports what paths hold.
+fn report_paths(opener: &MemOpener, paths: &[&str], report: &mut Report) -> Result<()> {
+    for path in paths {
         let line = match opener.bytes_at(path) {
             Some(bytes) => {
                 let bytes = hex_of(report.alloc, bytes)?;
@@ -110,6 +116,16 @@ fn run(case: ProgramCase<'_>, report: &mut Report) -> Result<()> {
         };
         report.line(line.as_str())?;
     }
+    Ok(())
+}
+
+/// Reports how many reads, faults and waits there were.
+fn report_counts(
+    opener: &MemOpener,
+    source: &MemSource,
+    sink: &MemSink,
+    report: &mut Report,
+) -> Result<()> {
     let line = format!(in report.alloc;
         "reads {}, faults of source {}, sink {}, opener {}, raws {}, waits {}",
         source.read_count(),

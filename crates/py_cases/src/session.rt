@@ -1,7 +1,7 @@
 //! Running the session of a case, and what came.
 
 use crate::block::Block;
-use crate::opened::open;
+use crate::opened::{Opened, open};
 use crate::report::{Report, hex_of};
 use crate::session_case::SessionCase;
 use anyhow::Result;
@@ -15,27 +15,48 @@ use py_stream::NewRefused;
 pub(crate) fn run_session_block(block: &Block<'_>, report: &mut Report) -> Result<()> {
     let alloc = report.alloc;
     let case = SessionCase::parse(alloc, block.head, block.lines.as_slice())?;
-    let mut opened = match open(alloc, &case)? {
-        Ok(opened) => opened,
-        Err(NewRefused { raw, fault }) => {
-            report.refused(fault)?;
-            return report_raw(&raw, report);
-        }
-    };
+    match open(alloc, &case)? {
+        Ok(opened) => run_opened(opened, &case, report),
+        Err(refused) => report_refused(&refused, report),
+    }
+}
+
+/// Makes the calls of a case on its session, which ends then. Here and below nothing of a session is in hand where a `?` stands: the
+/// proof of each would have that all of it may be dropped.
+fn run_opened(opened: Opened, case: &SessionCase<'_>, report: &mut Report) -> Result<()> {
+    let mut opened = opened;
+    let made = make_calls(&mut opened, case, report);
+    let life = life_word(opened.life());
+    let handed = opened.finish();
+    let ended = report_end(life, &handed, report);
+    made.and(ended)
+}
+
+/// Makes the calls of a case, and a detach where it has one of a session that failed.
+fn make_calls(opened: &mut Opened, case: &SessionCase<'_>, report: &mut Report) -> Result<()> {
     for call in &case.calls {
-        let reply = opened.call(alloc, call);
-        report.reply(&reply, opened.short())?;
+        make_call(opened, call, report)?;
     }
     if case.detaches && opened.life() == Life::Failed {
-        let reply = opened.call(alloc, &Call::Detach);
-        report.reply(&reply, opened.short())?;
+        make_call(opened, &Call::Detach, report)?;
     }
-    let life = life_word(opened.life());
-    report_end(life, opened.finish(), report)
+    Ok(())
+}
+
+/// Makes a call, and reports its answer.
+fn make_call(opened: &mut Opened, call: &Call, report: &mut Report) -> Result<()> {
+    let reply = opened.call(report.alloc, call);
+    report.reply(&reply, opened.short())
+}
+
+/// Reports a refused opening, and the raw that was handed back.
+fn report_refused(refused: &NewRefused<MemRaw>, report: &mut Report) -> Result<()> {
+    report.refused(refused.fault)?;
+    report_raw(&refused.raw, report)
 }
 
 /// Reports the life of a session, and what is handed back.
-fn report_end(life: &str, handed: Detached<MemRaw>, report: &mut Report) -> Result<()> {
+fn report_end(life: &str, handed: &Detached<MemRaw>, report: &mut Report) -> Result<()> {
     let owed = hex_of(report.alloc, handed.unwritten.as_slice())?;
     let line = match handed.place {
         Some(place) => format!(in report.alloc; "{life}, owes {owed} at {place}")?,

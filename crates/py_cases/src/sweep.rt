@@ -20,32 +20,104 @@ struct Variable<'a> {
 /// A line `for $x a b ..` gives a variable values, of which `m..n` is the numbers from m to before n; in the other lines each value
 /// stands for the variable in turn. Lines `most a b ..` say how many transfers the runs may make.
 pub(crate) fn run_sweep_block(block: &Block<'_>, report: &mut Report) -> Result<()> {
-    let alloc = report.alloc;
+    let variables = variables_of(report.alloc, block)?;
+    let runs = variables.iter().fold(1usize, |runs, variable| {
+        runs.saturating_mul(variable.values.len())
+    });
+    let most = most_of(report.alloc, block, runs)?;
+    run_all(block, &variables, &most, runs, report)
+}
+
+/// The variables of a sweep.
+fn variables_of<'a>(alloc: Global, block: &Block<'a>) -> Result<Vec<Variable<'a>>> {
     let mut variables = Vec::new(alloc);
-    let mut runs = 1usize;
     for line in block.lines.iter().filter(|line| line.word == "for") {
-        let variable = variable_of(alloc, line)?;
-        runs = runs.saturating_mul(variable.values.len());
-        variables.push(variable)?;
+        variables.push(variable_of(alloc, line)?)?;
     }
-    let most = most_of(alloc, block, runs)?;
+    Ok(variables)
+}
+
+/// Makes all runs of a sweep, up to one that differs.
+fn run_all(
+    block: &Block<'_>,
+    variables: &[Variable<'_>],
+    most: &[u64],
+    runs: usize,
+    report: &mut Report,
+) -> Result<()> {
     let mut waited = 0usize;
     let mut failed = 0usize;
-    for run in 0..runs {
-        let texts = texts_of(alloc, block, variables.as_slice(), run)?;
-        let outcome = run_texts(alloc, block, texts.as_slice())?;
-        waited = waited.saturating_add(usize::from(outcome.waits > 0));
-        failed = failed.saturating_add(usize::from(outcome.faults > 0));
-        if let Some(what) = flaw_of(alloc, outcome, most.get(run % most.len().max(1)))? {
-            report.line(format!(in alloc; "run {run} of {runs} differs: {what}")?.as_str())?;
-            report.line(format!(in alloc; "session {}", block.head.rest)?.as_str())?;
-            for text in &texts {
-                report.line(text.as_str())?;
-            }
+    for number in 0..runs {
+        let run = Numbered { number, runs };
+        let bound = most.get(number % most.len().max(1));
+        let came = run_one(block, variables, run, bound, report)?;
+        waited = waited.saturating_add(usize::from(came.waits));
+        failed = failed.saturating_add(usize::from(came.fails));
+        if came.differs {
             return Ok(());
         }
     }
+    let alloc = report.alloc;
     report.line(format!(in alloc; "{runs} runs, {waited} waited, {failed} failed")?.as_str())
+}
+
+/// A run of a sweep: its number, and how many runs there are.
+#[derive(Clone, Copy)]
+struct Numbered {
+    number: usize,
+    runs: usize,
+}
+
+/// What came of a run of a sweep.
+#[derive(Clone, Copy)]
+struct Came {
+    /// Whether its raw waited.
+    waits: bool,
+    /// Whether its raw failed.
+    fails: bool,
+    /// Whether something of it isn't as it should be, which is reported.
+    differs: bool,
+}
+
+/// Makes a run, and reports it where it differs.
+fn run_one(
+    block: &Block<'_>,
+    variables: &[Variable<'_>],
+    run: Numbered,
+    most: Option<&u64>,
+    report: &mut Report,
+) -> Result<Came> {
+    let texts = texts_of(report.alloc, block, variables, run.number)?;
+    let outcome = run_texts(report.alloc, block, &texts)?;
+    let (waits, fails) = (outcome.waits > 0, outcome.faults > 0);
+    let differs = report_flaw(outcome, most, run, block, &texts, report)?;
+    Ok(Came {
+        waits,
+        fails,
+        differs,
+    })
+}
+
+/// Reports a run in which something isn't as it should be, as a session that can be run by itself. Whether it was reported.
+fn report_flaw(
+    outcome: Outcome,
+    most: Option<&u64>,
+    run: Numbered,
+    block: &Block<'_>,
+    texts: &[String],
+    report: &mut Report,
+) -> Result<bool> {
+    let alloc = report.alloc;
+    let Some(what) = flaw_of(alloc, outcome, most)? else {
+        return Ok(false);
+    };
+    let Numbered { number, runs } = run;
+    report.line(format!(in alloc; "run {number} of {runs} differs: {what}")?.as_str())?;
+    report.line(format!(in alloc; "session {}", block.head.rest)?.as_str())?;
+    for text in texts {
+        report.line(text.as_str())?;
+    }
+    Ok(true)
 }
 
 /// How many transfers each run may make at most, in the order of the runs: of these the first variable changes first. Fewer numbers
