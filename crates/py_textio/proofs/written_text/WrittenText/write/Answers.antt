@@ -8,5 +8,5 @@ use Rattle.py_textio.proofs.written_text.WrittenText.write.Goals as goal
 pub returns-in-Err : goal.returns-in-Err
 returns-in-Err g c =
     let clean = sym (ap (λ (view : WrittenView). view.text.dirty) c.self.view_is) ∙ (sym c.is_dirty.ensures ∙ c.if-is_dirty.false) in
-    let refuses = rw (c.coder.ensures.encoding, c.coder.ensures.errors) at c.in-Err.ensures.err in
+    let refuses = rw (c.coder-coder.ensures.encoding, c.coder-coder.ensures.errors) at c.in-Err.ensures.err in
     write_run c.args.self.now (chars c.args.text.now) c.in-Err.fault c.requires.live c.requires.writes clean (subst (λ (view : WrittenView). encode_error (written_refusal view.text.settings (chars c.args.text.now)) ≡ Some c.in-Err.fault) c.self.view_is refuses) c.life.ensures.joined
