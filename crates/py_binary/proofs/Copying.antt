@@ -84,6 +84,7 @@ starved_look old new part a = record {
   in_hand = λ has. record { raw = (a.in_hand has).raw; fault = refl };
   owing = a.owing;
   needs = λ reading none. absurd (cc);
+  needs_reads = λ reading. absurd (cc);
   spares = a.spares;
   writes = λ writing. writes_lent old new part (a.writes writing);
   answer = λ accepted. tt;

@@ -9,7 +9,7 @@ use Rattle.py_stream.specs.Stream.{Stream, file_of}
 use Rattle.py_stream.specs.Kinds.{calls_none}
 use Rattle.py_stream.specs.Writing.{Writes}
 use Rattle.py_stream.specs.Answers.{AnswersWith, refused_by}
-use Rattle.py_stream.proofs.Begun.{near_seen, ahead_seen, came_still, each_still}
+use Rattle.py_stream.proofs.Begun.{near_seen, ahead_seen, came_still, each_still, reads_none}
 use Rattle.py_stream.proofs.Refused.{lays_nothing, starves_alive, starves_there}
 use Rattle.py_raw.proofs.Telling.{keeps_same}
 use Rattle.py_binary.specs.Binary.{has_reply_room}
@@ -84,6 +84,7 @@ starved_into stream size is live reads = record {
     needed = λ whole. inl refl;
     last = each_still stream (record stream { short = false }) 1 1 refl refl;
   };
+  needs_reads = λ reading. reads_none stream (ReadInto size) (Refused fault.NoMemory) (record stream { short = false }) (λ tells. refl);
   spares = λ reading none. record { bytes = λ tells. refl; written = λ tells. refl; owed = none; still = λ moves. refl };
   writes = λ writing. writes_none stream size live;
   answer = λ accepted. tt;

@@ -23,3 +23,6 @@ returns-in-Read g c = rw c.in-Read.is (with_said _ _ (bytes_reply c.read.result)
 
 pub returns-in-ReadLines : goal.returns-in-ReadLines
 returns-in-ReadLines g c = rw c.in-ReadLines.is (with_said _ _ (lines_reply c.readlines.result) _ _ c.lines_reply.ensures c.readlines.ensures)
+
+pub returns-in-ReadLine : goal.returns-in-ReadLine
+returns-in-ReadLine g c = rw c.in-ReadLine.is (with_said _ _ (bytes_reply c.readline.result) _ _ c.bytes_reply-in-ReadLine.ensures c.readline.ensures)
