@@ -242,15 +242,21 @@ fn hand_over(alloc: Global, opened: Opened, detaches: bool) -> Detached<MemRaw> 
     let mut opened = opened;
     let reply = opened.call(alloc, &Call::Detach);
     let mut handed = opened.finish();
-    let leaves_more = handed.place.is_some() || !handed.unwritten.is_empty();
     match reply {
-        Reply::Unwritten { bytes, place } if !leaves_more => {
-            handed.unwritten = bytes.into_vec();
-            handed.place = place;
-        }
-        _ => handed.place = None,
+        Reply::Unwritten { bytes, place } => take_over(&mut handed, bytes.into_vec(), place),
+        _other => handed.place = None,
     }
     handed
+}
+
+/// Has what a detach answered as what is handed back, where nothing else is.
+fn take_over(handed: &mut Detached<MemRaw>, bytes: Vec<u8>, place: Option<u64>) {
+    if handed.place.is_some() || !handed.unwritten.is_empty() {
+        handed.place = None;
+        return;
+    }
+    handed.unwritten = bytes;
+    handed.place = place;
 }
 
 /// Whether the end is as the plain code has it: each fault and each wait was told, the raw is closed where a close closed it, and no

@@ -6,7 +6,7 @@ ghost use Rattle.py_stream.specs.Opening.{StandsAtStart};
 use crate::session_case::SessionCase;
 use anyhow::Result;
 use py_binary::{Access, BinarySession};
-use py_flat::Life;
+use py_flat::{IoFault, Life};
 use py_open::{
     Call, Detached, OpenArgs, OpenRefused, Reply, Run, Session, TextSession, run_session,
 };
@@ -192,6 +192,10 @@ fn open_so(alloc: Global, mode: &str, way: Way, raw: MemRaw) -> Opening
 fn open_text(alloc: Global, raw: MemRaw, size: usize, chunk: usize) -> Opening
     requires { StandsAtStart (shown raw) }
 {
+    if size == 0 || chunk == 0 {
+        let fault = IoFault::BadArgument;
+        return Err(NewRefused { raw, fault });
+    }
     let coder = Coder {
         encoding: Encoding::Utf8,
         errors: Handler::Strict,
