@@ -1,5 +1,5 @@
 -- How many bytes of UTF-8 begin a character.
-use Rattle.std.proofs.Common.{◌≡◌, ℕ, ◌+◌, ◌-◌, ◌/◌, ◌%◌, ◌^◌, ◌<◌, ◌≤◌, Bool, true, false, ltb, cond, List, [], ◌∷◌, ◌++◌, map, length, take, drop, replicate, refl, sym, ap, ◌∙◌, arith, w8}
+use Rattle.std.proofs.Common.{◌≡◌, ℕ, zero, suc, ◌+◌, ◌-◌, ◌/◌, ◌%◌, ◌^◌, ◌<◌, ◌≤◌, Bool, true, false, ltb, cond, List, [], ◌∷◌, ◌++◌, map, length, take, drop, replicate, refl, sym, ap, ◌∙◌, arith, w8}
 use lib.Lanes.{zip2, mask_l, top}
 use lib.Utf8.{encode, next}
 use Rattle.std.specs.Int.RustNames.{count_ones}
@@ -102,3 +102,16 @@ pub count-to : (bytes : List ℕ) (place end : ℕ) → place ≤ end → count_
 count-to bytes place end le =
     let same : place + (end - place) ≡ end = omega arith in
     count-further bytes place (end - place) ∙ ap (λ n. count_by is_char_start (take n bytes)) same
+
+-- bytes that begin no character count for none
+none-more : (more size : ℕ) → count_by is_char_start (drop more (replicate size 128)) ≡ 0
+none-more zero zero = refl
+none-more (suc more) zero = refl
+none-more zero (suc size) = more-count 128 (replicate size 128) refl ∙ none-more zero size
+none-more (suc more) (suc size) = none-more more size
+
+-- a block that begins with some bytes, and whose rest begins no character
+pub count-few : (bytes copied : List ℕ) (more size : ℕ) → copied ≡ bytes → count_by is_char_start (copied ++ drop more (replicate size 128)) ≡ count_by is_char_start bytes
+count-few bytes copied more size same =
+    let both = sum_by-append (λ x. cond (is_char_start x) 1 0) copied (drop more (replicate size 128)) in
+    omega (arith, both, none-more more size, ap (count_by is_char_start) same)

@@ -1,5 +1,5 @@
 //! A text in UTF-8, and how many characters it has: as many as its bytes that begin one.
-ghost use Rattle.std.specs.Prelude.{◌≡◌, ◌+◌, ◌++◌, nat_lt, length, chars, IfOk, OnOk};
+ghost use Rattle.std.specs.Prelude.{◌≡◌, ◌+◌, ◌++◌, ◌<◌, nat_lt, length, chars, IfOk, OnOk};
 ghost use Rattle.std.specs.Fmt.{is_char_start};
 ghost use Rattle.std.specs.List.{count_by};
 
@@ -31,9 +31,10 @@ pub(crate) fn starts_in_block(bytes: Block) -> usize
     BLOCK - count_below(bytes, 0xC0) + count_below(bytes, 0x80)
 }
 
-/// How many bytes of whole blocks begin a character, and the bytes after those blocks.
+/// How many bytes of whole blocks begin a character, and the bytes after those blocks, fewer than a block.
 fn starts_in_blocks(bytes: &[u8]) -> (usize, &[u8])
-    ensures { result.0 + count_by is_char_start result.1.now ≡ count_by is_char_start bytes.now }
+    ensures counted { result.0 + count_by is_char_start result.1.now ≡ count_by is_char_start bytes.now }
+    ensures few { length result.1.now < 16 }
 {
     let mut count = 0;
     let mut place = 0;
@@ -51,17 +52,14 @@ pub(crate) fn is_start(byte: u8) -> bool
     byte < 0x80 || byte >= 0xC0
 }
 
-/// How many of some bytes begin a character, one at a time.
-fn starts_in(bytes: &[u8]) -> usize
+/// How many of fewer bytes than a block begin a character: they are looked at at once, as a block whose rest begins none.
+fn starts_in_few(bytes: &[u8]) -> usize
+    requires { length bytes.now < 16 }
     ensures { result ≡ count_by is_char_start bytes.now }
 {
-    let mut count = 0;
-    for byte in bytes {
-        if is_start(*byte) {
-            count += 1;
-        }
-    }
-    count
+    let mut block = [0x80; BLOCK];
+    block[..bytes.len()].copy_from_slice(bytes);
+    starts_in_block(Block::from_array(block))
 }
 
 /// How many of some bytes begin a character of UTF-8: all but those from 0x80 to 0xBF. Many of them are counted at once, and those of ASCII
@@ -73,7 +71,7 @@ pub fn count_starts(bytes: &[u8]) -> usize
         return bytes.len();
     }
     let (count, behind) = starts_in_blocks(bytes);
-    count + starts_in(behind)
+    count + starts_in_few(behind)
 }
 
 /// Appends some bytes, and answers how many of them begin a character.

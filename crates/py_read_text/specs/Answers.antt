@@ -377,8 +377,8 @@ pub record WritesAll (before : TextOver Buffer) (given : List ℕ) (after : Text
   pub write : AnswersAsBuffer before.buffer (binary.Write (before.owed ++ given)) (Count (length (before.owed ++ given))) after.buffer
 
 -- an answered write hands on nothing that it needn't: without write through, where what the text owes and is given is less than a chunk,
--- and no flush is to follow. Where none is to follow a buffer that wasn't read ahead of the text makes one write at most; that of a buffer
--- says what it may pass on
+-- and no flush is to follow. Where none is to follow, and its buffer wasn't read ahead of the text, all that it does is at most one write of
+-- the buffer
 pub record HandsOnLittle (before : TextOver Buffer) (given : List ℕ) (flushes : Bool) (after : TextOver Buffer) : Type 0 where
   pub few : before.settings.write_through ≡ false → flushes ≡ false → length (before.owed ++ given) < before.settings.chunk_size → HoldsBack before given after
   pub once : flushes ≡ false → behind_own before ≡ before.place.at → HoldsBack before given after ⊎ WritesAll before given after

@@ -518,8 +518,8 @@ pub record AnswersWith (room : FileCall → Bool) (before : Stream) (call : File
   pub owing : InHand before call → StaysHeld before after
   -- a reading that goes on from the bytes held asks for no more than it answers with
   pub needs : IsTrue (by_several before.buffer call) → IsAhead before → AsksNoMore before call reply after
-  -- any reading that goes on brings no more bytes than lie behind its place, also where it had to pass on first, and none for an answer that
-  -- is whole already
+  -- the reads of any reading that goes on, also of one that had to pass on first, bring no more bytes than lie between its place and where the
+  -- raw stands after it, and none once its answer is whole
   pub needs_reads : IsTrue (by_several before.buffer call) → ReadsNoMore before call reply after
   -- a stream that doesn't write leaves the raw's bytes, and owes nothing; only its readings and seeks move the raw
   pub spares : before.can.writable ≡ false → before.owed ≡ nothing_owed before.place → SparesBytes before call after

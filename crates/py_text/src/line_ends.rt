@@ -27,6 +27,7 @@ pub(crate) struct Cut<'t> {
 }
 
 /// Cuts a text at its first LF.
+#[inline(always)]
 pub(crate) fn cut_at_lf<'t>(text: &'t str) -> Cut<'t>
     ensures cut { IsCutAtLf (chars text.now) (chars result.run.now) result.ended (chars result.left.now) }
     ensures run { IsUtf8 result.run.now }

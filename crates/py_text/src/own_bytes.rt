@@ -6,6 +6,7 @@ use py_plain::Encoding;
 
 /// Whether the bytes of a text are those of its UTF-8, as far as is seen at once: always in UTF-8, and in an encoding of one
 /// byte for each character where the text is ASCII.
+#[inline(always)]
 pub(crate) fn stays(coder: Coder, text: &str) -> bool
     ensures { result ≡ true → each_encoded coder (chars text.now) ≡ text.now }
 {

@@ -13,6 +13,7 @@ use py_plain::Newlines;
 use std::alloc::Global;
 
 /// Appends a text as it stands, by way of a list of its bytes.
+#[inline(never)]
 fn push_encoded(alloc: Global, coder: Coder, text: &str, out: &mut Vec<u8>) -> Result<(), IoFault>
     requires whole { IsWhole coder.errors coder.encoding (chars text.now) }
     ensures ok { OnOk result (out.new.items ≡ out.old.items ++ each_encoded coder (chars text.now)) }
@@ -27,6 +28,7 @@ fn push_encoded(alloc: Global, coder: Coder, text: &str, out: &mut Vec<u8>) -> R
 }
 
 /// Appends a text as it stands.
+#[inline(always)]
 fn push_as_is(alloc: Global, coder: Coder, text: &str, out: &mut Vec<u8>) -> Result<(), IoFault>
     requires whole { IsWhole coder.errors coder.encoding (chars text.now) }
     ensures ok { OnOk result (out.new.items ≡ out.old.items ++ each_encoded coder (chars text.now)) }
@@ -69,6 +71,7 @@ fn push_lines(
 }
 
 /// Appends a text by the writing rule. What was appended before an `Err` stays.
+#[inline(always)]
 fn push_text(
     alloc: Global,
     coder: Coder,
