@@ -1,4 +1,4 @@
-ghost use Rattle.std.specs.Prelude.{◌≡◌, ◌*◌, ◌≤◌, ◌⊎◌, None, Some, length, chars, IfOk, IfErr, MatchOption};
+ghost use Rattle.std.specs.Prelude.{◌≡◌, ◌*◌, ◌≤◌, ◌⊎◌, None, Some, length, chars, IfOk, IfErr, IfSome, MatchOption};
 ghost use Rattle.py_plain.specs.Encode.{refused_run, encode_treatment, encoded};
 ghost use Rattle.py_plain_text.specs.TextWriting.{written_bytes, written_refusal};
 ghost use Rattle.py_plain_text.specs.TextRefusals.{encode_error};
@@ -6,7 +6,8 @@ ghost use Rattle.py_text.specs.EachWritten.{IsWhole};
 ghost use Rattle.py_text.specs.Written.{settings_of};
 
 use crate::Coder;
-use crate::sizes::length_within;
+use crate::own_bytes::stays;
+use crate::sizes::{SHORT, length_within};
 use py_blocks::count_starts;
 use py_codec::{HandlerRef, NoHandler, first_refusal};
 use py_flat::IoFault;
@@ -22,7 +23,7 @@ pub struct WrittenSize {
 }
 
 /// How many characters a text has: as many as its bytes that begin one.
-fn characters(text: &str) -> usize
+pub fn character_count(text: &str) -> usize
     ensures { result ≡ length (chars text.now) }
 {
     count_starts(text.as_bytes())
@@ -39,6 +40,22 @@ fn refusal(coder: Coder, text: &str) -> Option<IoFault>
             let errors: HandlerRef<NoHandler> = HandlerRef::Builtin(coder.errors);
             first_refusal(coder.encoding, text, errors)
         }
+    }
+}
+
+/// At most how many bytes a short text in UTF-8 is written as by a newline rule: twice as many as it has. Nothing of it is refused. Of a
+/// longer text, and of one in another encoding, it isn't told: `written_size` measures them.
+#[inline(always)]
+pub fn short_size(coder: Coder, newline: Newlines, text: &str) -> Option<usize>
+    ensures whole { IfSome result (λ most. written_refusal (settings_of coder newline) (chars text.now) ≡ None) }
+    ensures most { IfSome result (λ most. length (written_bytes (settings_of coder newline) (chars text.now)) ≤ most) }
+{
+    if text.len() > SHORT || !matches!(coder.encoding, Encoding::Utf8) {
+        return None;
+    }
+    match refusal(coder, text) {
+        None if stays(coder, text) => Some(text.len() * 2),
+        _ => None,
     }
 }
 
@@ -64,7 +81,7 @@ pub fn written_size(
         return Err(why);
     }
     Ok(WrittenSize {
-        chars: characters(text),
+        chars: character_count(text),
         bytes: length_within(coder, newline, text, room),
     })
 }

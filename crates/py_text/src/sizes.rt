@@ -124,7 +124,7 @@ fn written_length(coder: Coder, newline: Newlines, text: &str) -> u128
 }
 
 /// Up to how many bytes of UTF-8 a text is short, so that space for twice as many costs little.
-const SHORT: usize = 4096;
+pub(crate) const SHORT: usize = 4096;
 
 /// How many bytes a text comes to by the writing rule, where these are more than the room for them; else at most how many. An LF becomes
 /// two characters at most: of a short text that stays in its bytes none is looked for, where there is room for twice as many.

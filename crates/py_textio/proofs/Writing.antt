@@ -31,10 +31,10 @@ use Rattle.py_read_text.proofs.Placing.{not_far}
 use Rattle.py_read_text.specs.Owing.{all_owed, behind_own, IsJoined, PassesOwed, OwesOn, own_from, HasOwn, has_line_end, flushes_behind, GaveOwn, StopsOwing, all_from, LaysFront, LaysOwed}
 use Rattle.py_read_text.proofs.Owing.{passes_then, passes_behind, owes_none, open_then, owing_open}
 use Rattle.py_read_text.specs.Answers.{further, IsPassedOn, KeepsFew, HoldsBack, WritesAll, TextHolds, Answers}
-use Rattle.py_textio.specs.Written.{WrittenView, behind_owed, place_now, over_of, state_of, file_now, HandsOnBut, HandsOn, TookText, GoesBack, BackOutcome, LetsGo, HandOutcome, KeepsOwed, HandsOnOnce, TookPending}
+use Rattle.py_textio.specs.Written.{WrittenView, behind_owed, place_now, over_of, state_of, file_now, HandsOnBut, HandsOn, TookText, IsKept, StandsToWrite, GoesBack, BackOutcome, LetsGo, HandOutcome, KeepsOwed, HandsOnOnce, TookPending}
 use Rattle.py_textio.proofs.Ended.{ended-some}
 use Rattle.py_textio.proofs.Refusing.{refused}
-use Rattle.py_textio.proofs.Settling.{behind_so, clean_place, own_from_is, both_true}
+use Rattle.py_textio.proofs.Settling.{behind_so, clean_place, own_from_is, both_true, hands_itself}
 use Rattle.py_textio.proofs.Working.{answers_work}
 use Rattle.py_textio.proofs.Over.{calls_on, handed_file}
 use Rattle.py_read_text.proofs.Calling.{fails_still}
@@ -562,3 +562,41 @@ unput old mid new text why may back memory same joined =
     subst (λ (own : IoFault). Answers (state_of old false) (WriteText text) (Refused own) (state_of new (says_wait (Refused own)))) (sym memory)
     (subst (λ (view : WrittenView). Answers (state_of old false) (WriteText text) (Refused fault.NoMemory) (state_of view false)) (sym same)
     (unwritten_starved old lacks text may (record { calls = back.hands.calls; bytes = back.hands.bytes; place = back.hands.place; settings = back.hands.settings; owes = back.hands.owes; lays = λ told. lays_none old.text.buffer.raw.bytes (all_from (over_of old)) _ mid.text.buffer.raw.bytes (back.raw_bytes told); stays = back.hands.stays }) back.lives joined))
+
+-- A text that is only kept.
+
+-- a buffer that stands where what is owed begins needn't go back
+goes_nowhere : (view : WrittenView) → view.life ≡ life.Live → StandsToWrite view.text → GoesBack view view
+goes_nowhere view live stands = record {
+  hands = hands_itself view;
+  owed = refl;
+  answered = λ _. refl;
+  raw_bytes = λ told. refl;
+  lives = live;
+  pending = refl;
+  stands = stands;
+  still = λ there. refl;
+}
+
+never_both : (lines ends : Bool) → lines ≡ false → (lines && ends) ≡ true → ⊥
+never_both false ends none both = absurd (cc)
+never_both true ends none both = absurd (cc)
+
+-- what is put behind what is owed stays there
+pub kept_all : (old new : WrittenView) (text : List ℕ) (most chars : ℕ) → MayWrite old text → IsKept old most → length (own_bytes old text) ≤ most → chars ≡ length text → new ≡ with_bytes old (own_bytes old text) new.room → IsJoined (over_of new) → Answers (state_of old false) (WriteText text) (Count chars) (state_of new false)
+kept_all old new text most chars may kept fits counts same joined =
+    let put : WrittenView = with_bytes old (own_bytes old text) new.room in
+    let few : KeepsFew (state_of put false) = record {
+      few = omega (arith, kept.few, fits, length-append old.pending (own_bytes old text));
+      none = λ through. let never : true ≡ false = sym through ∙ kept.through in absurd (cc);
+    } in
+    subst (λ (view : WrittenView). Answers (state_of old false) (WriteText text) (Count chars) (state_of view false)) (sym same)
+    (written_all old old put text new.room 0 chars may (goes_nowhere old may.live kept.stands) counts
+    (hands_itself put, may.live, few, λ flushes. absurd (never_both old.text.settings.line_buffering (has_line_end text) kept.lines flushes))
+    (λ through flushes less. refl)
+    (λ flushes. inl refl)
+    (subst (λ (view : WrittenView). IsJoined (over_of view)) same joined))
+
+-- the room for the bytes of a text that would be kept couldn't be had
+pub unkept : (old new : WrittenView) (text : List ℕ) (most : ℕ) (why : IoFault) → MayWrite old text → IsKept old most → why ≡ fault.NoMemory → new ≡ record old { room = new.room } → IsJoined (over_of old) → Answers (state_of old false) (WriteText text) (Refused why) (state_of new (says_wait (Refused why)))
+unkept old new text most why may kept memory same joined = unput old old new text why may (goes_nowhere old may.live kept.stands) memory same joined

@@ -161,6 +161,15 @@ abbrev pub RoomFor : WrittenView → ℕ → Option ℕ → Type 0
 RoomFor view bytes (Some count) = (count ≡ bytes) × ((place_now view).at + bytes ≤ greatest_place)
 RoomFor view bytes None = greatest_place < (place_now view).at + bytes
 
+-- a text of at most so many bytes can be kept behind those that are owed, which begin where the buffer stands: with it they come to less than
+-- a chunk and end no further than a stream can, and nothing is passed on at once
+pub record IsKept (view : WrittenView) (most : ℕ) : Type 0 where
+  pub stands : StandsToWrite view.text
+  pub lines : view.text.settings.line_buffering ≡ false
+  pub through : view.text.settings.write_through ≡ false
+  pub few : length view.pending + most < view.text.settings.chunk_size
+  pub near : (place_now view).at + most ≤ greatest_place
+
 -- the buffer stands where what the text owes begins, and owes what it did, and the text stays as it is; a buffer that stood there is as it
 -- was
 pub record GoesBack (old new : WrittenView) : Type 0 where

@@ -1,5 +1,5 @@
 //! The text under a user's: it reads, and keeps what was written until its buffer takes it. Its calls are for a live text.
-ghost use Rattle.std.specs.Prelude.{◌≡◌, ◌≢◌, ◌+◌, ◌-◌, ◌<◌, ◌≤◌, ◌⊎◌, ◌&&◌, not, Bool, true, false, None, [], ◌++◌, length, take, chars, vec_len, vec_capacity, OnOk, OnErr, IfOk, IfErr, pos};
+ghost use Rattle.std.specs.Prelude.{◌≡◌, ◌≢◌, ◌+◌, ◌-◌, ◌<◌, ◌≤◌, ◌⊎◌, ◌&&◌, not, Bool, true, false, None, [], ◌++◌, length, take, chars, vec_len, vec_capacity, OnOk, OnErr, IfOk, IfErr, IfSome, pos};
 ghost use Rattle.py_flat.specs.Limits.{greatest_place};
 ghost use Rattle.py_plain_text.specs.Cookie.{is_buildable};
 ghost use Rattle.py_plain_text.specs.CookieView.{cookie_shown};
@@ -16,7 +16,7 @@ ghost use Rattle.py_read_text.specs.Owing.{IsJoined, has_line_end};
 ghost use Rattle.py_read_text.specs.Knowing.{over_of as read_of};
 ghost use Rattle.py_read_text.specs.Answers.{refused_here, Answers, cookie_reply};
 ghost use Rattle.py_textio.specs.Seeking.{CanMove, EndOutcome, CanSeekBy, AnswersSeeks};
-ghost use Rattle.py_textio.specs.Written.{over_of, state_of, file_now, place_now, HasRoom, StandsToWrite, SettleOutcome, stopped_reply, with_taken, RoomFor, TellsPlace, BackOutcome, PassOutcome, HandOutcome, KeepsOwed, HandsOnOnce};
+ghost use Rattle.py_textio.specs.Written.{over_of, state_of, file_now, place_now, HasRoom, StandsToWrite, SettleOutcome, stopped_reply, with_taken, RoomFor, IsKept, TellsPlace, BackOutcome, PassOutcome, HandOutcome, KeepsOwed, HandsOnOnce};
 
 use py_flat::{IoFault, Life};
 use py_held_text::{Coder, Wanted, drop_front};
@@ -26,8 +26,8 @@ use py_read_text::{Answer, ReadText, is_raw_fault, is_wait};
 use py_stream::BufferedStream;
 use py_telling::Told;
 use py_text::{
-    Reconfigure, TextSettings, WrittenSize, has_line_end, is_of_stream, push_written_text,
-    written_size,
+    Reconfigure, TextSettings, WrittenSize, character_count, has_line_end, is_of_stream,
+    push_written_text, short_size, written_size,
 };
 use std::alloc::Global;
 use std::marker::Model;
@@ -651,6 +651,52 @@ impl<B: BufferedStream> WrittenText<B> {
         }
     }
 
+    /// Whether a text of at most so many bytes is only kept, behind others that are owed: all come to less than a chunk then, and nothing is
+    /// passed on at once.
+    fn is_kept(&self, most: usize) -> bool
+        ensures { result ≡ true → IsKept self.now most }
+    {
+        // What holds of every text is known from here on.
+        let _ = &self.life;
+        let settings = self.text.settings();
+        !self.pending.is_empty()
+            && !settings.line_buffering
+            && !settings.write_through
+            && most < settings.chunk_size.saturating_sub(self.pending.len())
+            && most as u128 <= self.room()
+    }
+
+    /// At most how many bytes a text is written as, where it is only kept.
+    fn kept_size(&self, text: &str) -> Option<usize>
+        ensures kept { IfSome result (λ most. IsKept self.now most) }
+        ensures whole { IfSome result (λ most. written_refusal self.now.text.settings (chars text.now) ≡ None) }
+        ensures most { IfSome result (λ most. length (written_bytes self.now.text.settings (chars text.now)) ≤ most) }
+    {
+        let most = short_size(self.text.coder(), self.text.settings().newline, text)?;
+        if self.is_kept(most) { Some(most) } else { None }
+    }
+
+    /// Keeps a text of at most so many bytes behind those that are owed, and calls no buffer.
+    fn keep(&mut self, alloc: Global, text: &str, most: usize) -> Result<usize, IoFault>
+        requires live { self.old.life ≡ Life.Live }
+        requires writes { self.old.text.buffer.can.writable ≡ true }
+        requires clean { self.old.text.dirty ≡ false }
+        requires kept { IsKept self.old most }
+        requires whole { written_refusal self.old.text.settings (chars text.now) ≡ None }
+        requires most { length (written_bytes self.old.text.settings (chars text.now)) ≤ most }
+        ensures { Answers (state_of self.old false) (WriteText (chars text.now)) (count_reply result) (state_of self.new (says_wait (count_reply result))) }
+    {
+        // What holds of every text is known from here on.
+        let _ = self.life();
+        match self.put(alloc, text, most) {
+            Ok(_) => {
+                let _ = self.life();
+                Ok(character_count(text))
+            }
+            Err(fault) => Err(fault),
+        }
+    }
+
     /// Writes a text: its bytes are the text's own, until its buffer takes them. With line buffering a text that has a line end is flushed.
     pub fn write(&mut self, alloc: Global, text: &str) -> Result<usize, IoFault>
         requires live { self.old.life ≡ Life.Live }
@@ -662,6 +708,21 @@ impl<B: BufferedStream> WrittenText<B> {
         if self.text.is_dirty() {
             return Err(IoFault::SeekFirst);
         }
+        match self.kept_size(text) {
+            Some(most) => self.keep(alloc, text, most),
+            None => self.measure_and_write(alloc, text),
+        }
+    }
+
+    /// Writes a text, once it is known what it comes to.
+    fn measure_and_write(&mut self, alloc: Global, text: &str) -> Result<usize, IoFault>
+        requires live { self.old.life ≡ Life.Live }
+        requires writes { self.old.text.buffer.can.writable ≡ true }
+        requires clean { self.old.text.dirty ≡ false }
+        ensures { Answers (state_of self.old false) (WriteText (chars text.now)) (count_reply result) (state_of self.new (says_wait (count_reply result))) }
+    {
+        // What holds of every text is known from here on.
+        let _ = self.life();
         let coder = self.text.coder();
         match written_size(coder, self.text.settings().newline, text, self.room()) {
             Ok(size) => self.write_sized(alloc, text, size),
