@@ -1,10 +1,9 @@
 //! A run of a session beside plain code: a flat file, or the plain slow text.
 
 use crate::flat_file::Flat;
-use crate::opened::{Opened, open};
 use crate::plain;
-use crate::session_case::SessionCase;
 use anyhow::Result;
+use py_case_sessions::{Opened, SessionCase, open};
 use py_flat::{IoFault, Life};
 use py_open::{Call, Detached, Reply};
 use py_plain::Newlines;

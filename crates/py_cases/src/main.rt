@@ -5,20 +5,17 @@
 #![tactic(auto)]
 
 mod beside;
-mod block;
 mod flat_file;
-mod opened;
 mod plain;
 mod program;
 mod report;
 mod session;
-mod session_case;
 mod sweep;
 
 use anyhow::Result;
-use block::{Block, blocks};
 use plain::{run_plain_block, run_units_block};
 use program::run_program_block;
+use py_case_sessions::{Block, blocks};
 use report::Report;
 use session::run_session_block;
 use std::{env, fs};

@@ -1,8 +1,8 @@
 //! The plain slow program's answers: of plain texts, and of units and first lines one by one.
 
-use crate::block::{Block, Line};
 use crate::report::Report;
 use anyhow::Result;
+use py_case_sessions::{Block, Line};
 use py_flat::IoFault;
 use py_open::{Call, Reply};
 use py_plain::{Encoding, Handler, Newlines, Unit, first_line, first_unit};

@@ -1,9 +1,8 @@
 //! Runs of the whole program over files, scripts and outputs in memory.
 
-use crate::block::{Block, Line};
 use crate::report::{Report, hex_of};
-use crate::session_case::cuts_of;
 use anyhow::Result;
+use py_case_sessions::{Block, Line, cuts_of};
 use py_program::run_program;
 use py_raw::{MemSink, MemSource};
 use py_raw_memory::MemOpener;

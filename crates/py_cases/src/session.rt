@@ -1,10 +1,8 @@
 //! Running the session of a case, and what came.
 
-use crate::block::Block;
-use crate::opened::{Opened, open};
 use crate::report::{Report, hex_of};
-use crate::session_case::SessionCase;
 use anyhow::Result;
+use py_case_sessions::{Block, Opened, SessionCase, open};
 use py_flat::Life;
 use py_open::{Call, Detached};
 use py_raw::RawStream;

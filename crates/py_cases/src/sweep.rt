@@ -1,10 +1,9 @@
 //! Sweeps: a session with variables, run for all their values beside plain code; a table may bound the transfers of its raw.
 
 use crate::beside::{Outcome, run_beside};
-use crate::block::{Block, Line};
 use crate::report::Report;
-use crate::session_case::SessionCase;
 use anyhow::Result;
+use py_case_sessions::{Block, Line, SessionCase};
 use std::alloc::Global;
 
 /// A variable of a sweep: how it is written, and its values.

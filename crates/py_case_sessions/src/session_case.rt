@@ -9,31 +9,38 @@ use std::alloc::Global;
 
 /// A session to be opened, and the calls on it.
 #[derive(Drop)]
-pub(crate) struct SessionCase<'a> {
+pub struct SessionCase<'a> {
     /// The line of the opening: the mode, and options as on the command line.
-    pub(crate) open: Line<'a>,
-    pub(crate) mode: &'a str,
-    pub(crate) options: Vec<&'a str>,
+    pub open: Line<'a>,
+    /// The mode.
+    pub mode: &'a str,
+    /// The options of the opening.
+    pub options: Vec<&'a str>,
     /// How many bytes the buffer has, whatever the mode is. No option says this: a buffer of one byte is opened so.
-    pub(crate) buffer: Option<usize>,
-    pub(crate) bytes: Vec<u8>,
+    pub buffer: Option<usize>,
+    /// What the raw holds.
+    pub bytes: Vec<u8>,
     /// What the raw can do: be read (`r`), written (`w`) and moved (`s`).
-    pub(crate) able: &'a str,
+    pub able: &'a str,
     /// Where the raw is moved before it is opened, which is its first call.
-    pub(crate) at: usize,
-    pub(crate) closed: bool,
-    pub(crate) cuts: Vec<Cut>,
-    pub(crate) faults: Vec<u64>,
-    pub(crate) calls: Vec<Call>,
+    pub at: usize,
+    /// Whether the raw is closed before it is opened.
+    pub closed: bool,
+    /// How the raw's transfers are cut.
+    pub cuts: Vec<Cut>,
+    /// The numbers of the raw's calls that fail.
+    pub faults: Vec<u64>,
+    /// The calls that are made.
+    pub calls: Vec<Call>,
     /// Whether a session that failed is detached, and not finished.
-    pub(crate) detaches: bool,
+    pub detaches: bool,
     /// What the raw holds in the end, where the case says so.
-    pub(crate) ends: Option<Vec<u8>>,
+    pub ends: Option<Vec<u8>>,
 }
 
 impl<'a> SessionCase<'a> {
     /// The session of some lines after a head.
-    pub(crate) fn parse(alloc: Global, head: Line<'a>, lines: &[Line<'a>]) -> Result<Self> {
+    pub fn parse(alloc: Global, head: Line<'a>, lines: &[Line<'a>]) -> Result<Self> {
         let mut case = SessionCase {
             open: head,
             mode: "",
@@ -95,7 +102,7 @@ impl<'a> SessionCase<'a> {
 
 /// The cuts of some words: `t` and a number of bytes takes at most n, `w` waits, `b` and a number breaks off after n;
 /// `*` and a number after one of them is how often it stands.
-pub(crate) fn cuts_of(alloc: Global, line: &Line<'_>, words: &str) -> Result<Vec<Cut>> {
+pub fn cuts_of(alloc: Global, line: &Line<'_>, words: &str) -> Result<Vec<Cut>> {
     let mut cuts = Vec::new(alloc);
     for word in words.split_whitespace() {
         let (cut, times) = word.split_once('*').unwrap_or((word, "1"));

@@ -6,32 +6,33 @@ use std::alloc::Global;
 
 /// A line of a case: its number in the file, from 1 on, its first word, and what follows the space after it.
 #[derive(Clone, Copy)]
-pub(crate) struct Line<'a> {
-    pub(crate) number: usize,
-    pub(crate) word: &'a str,
-    pub(crate) rest: &'a str,
+pub struct Line<'a> {
+    pub number: usize,
+    pub word: &'a str,
+    pub rest: &'a str,
 }
 
 /// A case: its head, the kind and the name, and the lines up to the next head.
 #[derive(Drop)]
-pub(crate) struct Block<'a> {
-    pub(crate) head: Line<'a>,
-    pub(crate) lines: Vec<Line<'a>>,
+pub struct Block<'a> {
+    pub head: Line<'a>,
+    pub lines: Vec<Line<'a>>,
 }
 
 impl<'a> Line<'a> {
-    pub(crate) fn new(number: usize, text: &'a str) -> Self {
+    /// The line of a number in its file.
+    pub fn new(number: usize, text: &'a str) -> Self {
         let (word, rest) = text.split_once(' ').unwrap_or((text, ""));
         Line { number, word, rest }
     }
 
     /// The refusal of this line.
-    pub(crate) fn malformed<T>(&self) -> Result<T> {
+    pub fn malformed<T>(&self) -> Result<T> {
         bail!("line {} is malformed", self.number)
     }
 
     /// The numbers that the words of a part of this line are.
-    pub(crate) fn numbers(&self, alloc: Global, part: &str) -> Result<Vec<u64>> {
+    pub fn numbers(&self, alloc: Global, part: &str) -> Result<Vec<u64>> {
         let mut numbers = Vec::new(alloc);
         for word in part.split_whitespace() {
             numbers.push(self.number(word)? as u64)?;
@@ -40,7 +41,7 @@ impl<'a> Line<'a> {
     }
 
     /// The one number that a part of this line is.
-    pub(crate) fn number(&self, part: &str) -> Result<usize> {
+    pub fn number(&self, part: &str) -> Result<usize> {
         match part.parse() {
             Ok(number) => Ok(number),
             Err(_) => self.malformed(),
@@ -48,7 +49,7 @@ impl<'a> Line<'a> {
     }
 
     /// The bytes of a word in hex, or none for `-`.
-    pub(crate) fn bytes(&self, alloc: Global, word: &str) -> Result<Vec<u8>> {
+    pub fn bytes(&self, alloc: Global, word: &str) -> Result<Vec<u8>> {
         if word == "-" {
             return Ok(Vec::new(alloc));
         }
@@ -60,7 +61,7 @@ impl<'a> Line<'a> {
 }
 
 /// The blocks of a file. Empty lines and those that begin with `#` part nothing and say nothing.
-pub(crate) fn blocks(alloc: Global, text: &str) -> Result<Vec<Block<'_>>> {
+pub fn blocks(alloc: Global, text: &str) -> Result<Vec<Block<'_>>> {
     let mut blocks: Vec<Block<'_>> = Vec::new(alloc);
     for (index, text) in text.split('\n').enumerate() {
         if text.is_empty() || text.starts_with('#') {

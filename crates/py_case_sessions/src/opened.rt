@@ -20,17 +20,21 @@ use std::alloc::Global;
 
 /// A session: as a plan opens it, or with a buffer of any size.
 #[derive(Drop)]
-pub(crate) enum Opened {
+pub enum Opened {
+    /// As a plan opens it.
     Planned(Session<MemRaw>),
+    /// A stream of bytes with a buffer of a size of its own.
     Bytes(BinarySession<MemRaw>),
+    /// A text with a buffer and chunks of sizes of its own.
     Text(TextSession<MemRaw>),
 }
 
 /// What an opening comes to.
-pub(crate) type Opening = Result<Opened, NewRefused<MemRaw>>;
+pub type Opening = Result<Opened, NewRefused<MemRaw>>;
 
 impl Opened {
-    pub(crate) fn call(&mut self, alloc: Global, call: &Call) -> Reply {
+    /// Makes one call.
+    pub fn call(&mut self, alloc: Global, call: &Call) -> Reply {
         match self {
             Opened::Planned(session) => session.call(alloc, call),
             Opened::Bytes(session) => session.call(alloc, call),
@@ -38,7 +42,8 @@ impl Opened {
         }
     }
 
-    pub(crate) fn short(&self) -> bool {
+    /// Whether the last answer was cut short by a wait.
+    pub fn short(&self) -> bool {
         match self {
             Opened::Planned(session) => session.short(),
             Opened::Bytes(session) => session.short(),
@@ -46,7 +51,8 @@ impl Opened {
         }
     }
 
-    pub(crate) fn life(&self) -> Life {
+    /// What became of the session.
+    pub fn life(&self) -> Life {
         match self {
             Opened::Planned(session) => session.life(),
             Opened::Bytes(session) => session.life(),
@@ -54,7 +60,8 @@ impl Opened {
         }
     }
 
-    pub(crate) fn finish(self) -> Detached<MemRaw> {
+    /// Hands the raw back, with what it doesn't have.
+    pub fn finish(self) -> Detached<MemRaw> {
         match self {
             Opened::Planned(session) => session.finish(),
             Opened::Bytes(session) => session.into_parts(),
@@ -111,7 +118,7 @@ enum Way {
 
 /// Opens the session of a case. How it is opened is known before there is a raw, so that no `?` stands where one is in hand: the proof of
 /// each would have that it may be dropped.
-pub(crate) fn open(alloc: Global, case: &SessionCase<'_>) -> Result<Opening> {
+pub fn open(alloc: Global, case: &SessionCase<'_>) -> Result<Opening> {
     let way = way_of(alloc, case)?;
     let mut raw = raw_of(alloc, case)?;
     if !set_up(&mut raw, case.at as u64, case.closed) || !stands_at_start(&raw) {
