@@ -11,17 +11,19 @@ use Rattle.py_flat.specs.Limits.{greatest_place}
 use Rattle.py_flat.specs.Refusals.{or_else, refused_if}
 use Rattle.py_flat.specs.BinaryStep.{is_live}
 use Rattle.py_flat.specs.AllowedStep.{settled, waited_for, raw_faulted, out_of_memory}
+use Rattle.py_plain.specs.declared.encoding.Encoding.{Encoding}
 use Rattle.py_plain.specs.declared.handler.Handler.{Handler}
+use Rattle.py_plain.specs.declared.newlines.Newlines.{Newlines}
 use Rattle.py_plain.specs.Handlers.{reads_texts}
 use Rattle.py_plain.specs.Units.{Unknown}
-use Rattle.py_plain_text.specs.TextFile.{TextPlace, TextSettings, TextFile}
+use Rattle.py_plain_text.specs.TextFile.{Front, TextPlace, TextSettings, TextFile}
 use Rattle.py_plain_text.specs.TextStep.{ReadsTextPart}
 use Rattle.py_plain_text.specs.Rest.{text_rest}
 use Rattle.py_plain_text.specs.Cookie as cookie
 use Rattle.py_plain_text.specs.Cookie.{cookie_bytes, cookie_of, order_of}
 use Rattle.py_plain_text.specs.declared.text_cookie.TextIOCookie.{TextIOCookie}
 use Rattle.py_plain_text.specs.CookieView.{cookie_shown}
-use Rattle.py_plain_text.specs.CookieLaws.{StandsInText, LiesInReach}
+use Rattle.py_plain_text.specs.CookieLaws.{StandsInText, FrontStands, LiesInReach}
 use Rattle.py_plain_text.specs.Landing.{Landed, Stands, CantRestore, skips, is_restorable, start_place, place_inside, lands}
 use Rattle.py_plain_text.specs.Telling.{placed, told}
 use Rattle.py_plain_text.specs.TextCalls as text
@@ -60,7 +62,8 @@ use Rattle.py_open.specs.TextOpening.{text_opened, OpensText}
 use Rattle.py_open.specs.Session.{OfText, SessionView, TextSession, BinarySession, IsDetachedText, LeftBy, AnswersTextBy, Answers, raw_of, file_seen, life_of}
 use Rattle.py_open.specs.Opening.{access_of, text_settings, OpensBy, OpensSession}
 use Rattle.py_open.specs.Run.{IsRun, IsSmooth}
-use Rattle.py_open.specs.Laws.{left_exactly, session_exact, GoesBackFrom, IsBack}
+use Rattle.py_open.specs.Laws.{left_exactly, session_exact, IsReached, GoesBackFrom, IsBack, BringsBack}
+use Rattle.py_open.proofs.Reached.{opening_keeps, run_reached}
 use Rattle.py_open.proofs.TextLeft.{call_life}
 use Rattle.py_open.proofs.Steps.{step_keeps, step_told, smooth_step}
 use Rattle.py_open.proofs.Runs.{run_keeps_raw, run_keeps_settings, settled_is_exact}
@@ -312,25 +315,79 @@ head_same one other ones others is = cc
 text_same : (one other : TextFile) → OfText one ≡ OfText other → one ≡ other
 text_same one other is = cc
 
-pub goes_back : (raw : Raw) (plan : OpenPlan) (opened : SessionView) (was after_tell now after : TextState) (front between : List Call) (replies others : List Reply) (seen : TextIOCookie) (says : Reply) → IsPlanned plan → OpensSession raw plan opened → IsTrue (tells (raw_of opened)) → IsRun opened front replies (TextSession was) → Answers (TextSession was) call.Tell (reply.Cookie seen) (TextSession after_tell) → IsRun (TextSession after_tell) between others (TextSession now) → GoesBackFrom was now → Answers (TextSession now) (call.SeekText (cookie_bytes (cookie_shown seen)) (pos zero)) says (TextSession after) → IsSmooth now.text.buffer.raw after.text.buffer.raw → said says ≢ Refused fault.NoMemory → IsBack was seen says after
-goes_back raw plan opened was after_tell now after front between replies others seen says planned opens tell run_there tell_step run_on back step smooth had =
+-- a session that was reached tells, and stands as calls leave one
+record IsKnown (session : SessionView) : Type 0 where
+  told : IsTrue (tells (raw_of session))
+  known : Tells session
+
+reached_known : (session : SessionView) → IsReached session → IsKnown session
+reached_known session is =
+    let tell : IsTrue (tells (raw_of is.opened)) = tells_still is.raw (raw_of is.opened) (opening_keeps is.plan.kind (access_of is.plan.mode) is.raw is.opened is.opens).keeps ∙ is.told in
+    record {
+      told = tells_still (raw_of is.opened) (raw_of session) (run_keeps_raw is.opened is.calls is.replies session is.run) ∙ tell;
+      known = run_tells is.opened is.calls is.replies session is.run tell (opened_tells is.plan.kind is.plan.mode is.raw is.opened is.planned is.opens);
+    }
+
+-- a text as another has it that is read by the same rules: with that one's abilities, size of chunks and ways of writing
+abbrev had_by : TextFile → TextFile → TextFile
+had_by other file = record file { can = other.can; settings = record other.settings { encoding = file.settings.encoding; handler = file.settings.handler; newline = file.settings.newline } }
+
+-- an item stands in both
+front_had : (other file : TextFile) (front : Option Front) → FrontStands file front → FrontStands (had_by other file) front
+front_had other file None stands = stands
+front_had other file (Some front) stands = record {
+  item = stands.item;
+  stands = record { some = stands.stands.some; few = stands.stands.few; within = stands.stands.within; items = stands.stands.items; ending = stands.stands.ending; whole = stands.stands.whole };
+  skips = stands.skips;
+  behind = stands.behind;
+}
+
+-- a text stands in its place also where another has it that can be read where it can
+stands_had : (other file : TextFile) → other.settings.handler ≡ file.settings.handler → (file.can.readable ≡ true → other.can.readable ≡ true) → StandsInText other → StandsInText file → StandsInText (had_by other file)
+stands_had other file handler reads one stands = record {
+  reads = λ readable. subst (λ (h : Handler). reads_texts h ≡ true) handler (one.reads readable);
+  front = front_had other file file.place.front stands.front;
+  clean = stands.clean;
+  still = λ unread. stands.still (never_read file.can.readable other.can.readable reads unread);
+}
+  where
+    never_read : (was is : Bool) → (was ≡ true → is ≡ true) → is ≡ false → was ≡ false
+    never_read false is reads unread = refl
+    never_read true is reads unread = absurd (false≢true (sym unread ∙ reads refl))
+
+-- settings by three of them
+settings_had : (was now : TextSettings) → now.encoding ≡ was.encoding → now.handler ≡ was.handler → now.newline ≡ was.newline → now ≡ record now { encoding = was.encoding; handler = was.handler; newline = was.newline }
+settings_had was now encoding handler newline =
+    ap (λ (e : Encoding). let own : TextSettings = record now { encoding = e } in own) encoding
+    ∙ (ap (λ (h : Handler). let own : TextSettings = record now { encoding = was.encoding; handler = h } in own) handler
+    ∙ ap (λ (n : Newlines). let own : TextSettings = record now { encoding = was.encoding; handler = was.handler; newline = n } in own) newline)
+
+pub goes_back : (was after_tell now after : TextState) (seen : TextIOCookie) (says : Reply) → IsReached (TextSession was) → Answers (TextSession was) call.Tell (reply.Cookie seen) (TextSession after_tell) → IsReached (TextSession now) → GoesBackFrom was now → Answers (TextSession now) (call.SeekText (cookie_bytes (cookie_shown seen)) (pos zero)) says (TextSession after) → IsSmooth now.text.buffer.raw after.text.buffer.raw → said says ≢ Refused fault.NoMemory → IsBack was seen says after
+goes_back was after_tell now after seen says reached tell_step later back step smooth had =
     let bytes : List ℕ = cookie_bytes (cookie_shown seen) in
-    let there : IsTrue (tells was.text.buffer.raw) = tells_still (raw_of opened) was.text.buffer.raw (run_keeps_raw opened front replies (TextSession was) run_there) ∙ tell in
-    let later : IsTrue (tells after_tell.text.buffer.raw) = tells_still was.text.buffer.raw after_tell.text.buffer.raw (step_keeps (TextSession was) call.Tell (reply.Cookie seen) (TextSession after_tell) tell_step).0 ∙ there in
-    let here : IsTrue (tells now.text.buffer.raw) = tells_still after_tell.text.buffer.raw now.text.buffer.raw (run_keeps_raw (TextSession after_tell) between others (TextSession now) run_on) ∙ later in
-    let known : Tells (TextSession was) = run_tells opened front replies (TextSession was) run_there tell (opened_tells plan.kind plan.mode raw opened planned opens) in
-    let told_step = step_told (TextSession was) call.Tell (reply.Cookie seen) (TextSession after_tell) tell_step there in
+    let there = reached_known (TextSession was) reached in
+    let here = reached_known (TextSession now) later in
+    let told_step = step_told (TextSession was) call.Tell (reply.Cookie seen) (TextSession after_tell) tell_step there.told in
     let where_it = tell_says (state.file_of was) bytes _ _ told_step.file told_step.step in
     let free = free_tell was.text.life was.text.buffer.can.seekable where_it.free in
-    let reach : LiesInReach (state.file_of was) = record { bytes = back.reach; place = told_near was (Cookie bytes) after_tell tell_step.answers } in
-    let can : now.text.buffer.can ≡ was.text.buffer.can = (run_keeps_settings (TextSession after_tell) between others (TextSession now) run_on).0 ∙ (step_keeps (TextSession was) call.Tell (reply.Cookie seen) (TextSession after_tell) tell_step).1.0 in
-    let forward : was.text.buffer.can.appending ≡ false = ap (λ (c : Abilities). c.appending) (sym can) ∙ back.forward in
-    let elsewhere : state.file_of now ≡ placed (state.file_of was) now.text.place = put_elsewhere (state.file_of was) (state.file_of now) back.bytes can back.settings (back.live ∙ sym free.0) in
-    let goes = back_from (state.file_of was) now.text.place bytes (known free.0) reach free.0 free.1 forward where_it.says in
-    let goes_now = subst (λ (f : TextFile). GoesBack (state.file_of was) bytes (exact f (text.SeekText bytes (pos zero))).0 (exact f (text.SeekText bytes (pos zero))).1) (sym elsewhere) goes in
-    let settles = smooth_step (TextSession now) (call.SeekText bytes (pos zero)) says (TextSession after) step here smooth had in
+    let known = there.known free.0 in
+    let file : TextFile = had_by (state.file_of now) (state.file_of was) in
+    let reach : LiesInReach file = record { bytes = back.reach; place = told_near was (Cookie bytes) after_tell tell_step.answers } in
+    let stands : TellsIn file = record { stands = stands_had (state.file_of now) (state.file_of was) back.handler back.reads (here.known back.live).stands known.stands; none = known.none } in
+    let elsewhere : state.file_of now ≡ placed file now.text.place = put_elsewhere file (state.file_of now) back.bytes refl (settings_had was.text.settings now.text.settings back.encoding back.handler back.newline) (back.live ∙ sym free.0) in
+    let goes = back_from file now.text.place bytes stands reach free.0 back.moves back.forward where_it.says in
+    let goes_now = subst (λ (f : TextFile). GoesBack file bytes (exact f (text.SeekText bytes (pos zero))).0 (exact f (text.SeekText bytes (pos zero))).1) (sym elsewhere) goes in
+    let settles = smooth_step (TextSession now) (call.SeekText bytes (pos zero)) says (TextSession after) step here.told smooth had in
     let is = settled_is_exact (state.file_of now) (call.SeekText bytes (pos zero) ∷ []) (said says ∷ []) (OfText (state.file_of after)) (inr (refl, tt)) (OfText (state.file_of after), settles, refl) in
-    let both = exactly_back (state.file_of was) (state.file_of now) bytes (said says) (state.file_of after) back.live free.0 goes_now
+    let both = exactly_back file (state.file_of now) bytes (said says) (state.file_of after) back.live free.0 goes_now
     (head_same (said says) (session_exact (state.file_of now) (call.SeekText bytes (pos zero))).0 [] [] is.says)
     (text_same (state.file_of after) (session_exact (state.file_of now) (call.SeekText bytes (pos zero))).1 is.leaves) in
     record { says = both.0; rest = both.1 }
+
+-- what the cookies of a session are worth that a plan opens over a raw that tells
+pub brings_back : (raw : Raw) (plan : OpenPlan) (opened : SessionView) → IsTrue (tells raw) → IsPlanned plan → OpensSession raw plan opened → BringsBack opened
+brings_back raw plan opened told planned opens = record {
+  reached = λ calls replies session run. run_reached raw plan opened calls replies session told planned opens run;
+  back = λ was after_tell now after seen calls replies says there tell_step run back step smooth had.
+      goes_back was after_tell now after seen says there tell_step (run_reached raw plan opened calls replies (TextSession now) told planned opens run) back step smooth had;
+}

@@ -2,6 +2,7 @@ mod TextGone
 pub mod TextKeeping
 mod TextOpening
 mod Parting
+pub mod Reached
 pub mod Detaching
 mod Blaming
 mod Losing

@@ -1,5 +1,5 @@
 -- What holds of whole runs, whatever raw is below.
-use Rattle.std.specs.Prelude.{◌≡◌, ◌≢◌, ◌⊎◌, ◌≤◌, Bool, true, false, IsTrue, ℕ, List, [], ◌∷◌, length, Option, None, is_some}
+use Rattle.std.specs.Prelude.{◌≡◌, ◌≢◌, ◌⊎◌, ◌≤◌, Bool, true, false, IsTrue, ℕ, pos, List, [], ◌∷◌, length, Option, None, is_some}
 use Rattle.py_flat.specs.declared.fault.IoFault.TheVariants as fault
 use Rattle.py_flat.specs.declared.life.Life.{Life}
 use Rattle.py_flat.specs.declared.life.Life.TheVariants as life
@@ -26,7 +26,10 @@ use Rattle.py_stream.specs.Answers as stream
 use Rattle.py_calls.specs.declared.call.Call.{Call}
 use Rattle.py_calls.specs.declared.call.Call.TheVariants as call
 use Rattle.py_calls.specs.declared.reply.Reply.{Reply}
+use Rattle.py_calls.specs.declared.reply.Reply.TheVariants as reply
 use Rattle.py_calls.specs.Calls.{text_call, file_call, said}
+use Rattle.py_calls.specs.declared.plan.OpenPlan.{OpenPlan}
+use Rattle.py_calls.specs.Plan.{IsPlanned}
 use Rattle.py_read_text.specs.TextState as state
 use Rattle.py_read_text.specs.TextState.{TextState}
 use Rattle.py_read_text.specs.Answers as over
@@ -34,6 +37,7 @@ use Rattle.py_read_text.specs.Owing.{has_line_end}
 use Rattle.py_open.specs.TextSession.{OwesNothing}
 use Rattle.py_binary.specs.Binary.{detached_fault}
 use Rattle.py_open.specs.Session.{SessionFile, OfText, OfBinary, SessionView, TextSession, BinarySession, raw_of, file_seen, owed_of, flat_bytes, SaysOrStarves, flag_seen, Answers}
+use Rattle.py_open.specs.Opening.{OpensSession}
 use Rattle.py_open.specs.Run.{Entry, IsRun, IsMarkedRun, IsHistory, IsSmooth, NoneLacksMemory, calls_of, replies_of, all_said}
 
 -- Texts.
@@ -122,12 +126,28 @@ pub record IsSmoothRun (before : SessionView) (calls : List Call) (replies : Lis
 
 -- Going back to where a text told.
 
--- a text may go back to where another told: it is live, doesn't append, and has its settings and its bytes, which are no more than a stream
--- can have
+-- a session that a plan opened over a raw that tells, and to which calls led
+pub record IsReached (session : SessionView) : Type 0 where
+  pub raw : Raw
+  pub plan : OpenPlan
+  pub told : IsTrue (tells raw)
+  pub planned : IsPlanned plan
+  pub opened : SessionView
+  pub opens : OpensSession raw plan opened
+  pub calls : List Call
+  pub replies : List Reply
+  pub run : IsRun opened calls replies session
+
+-- a text may go back to where another told, of the same session or of another: it is live, can be moved, can be read where that can, doesn't
+-- append, and has its encoding, handler and newline rule, and its bytes, which are no more than a stream can have
 pub record GoesBackFrom (was now : TextState) : Type 0 where
   pub live : now.text.life ≡ life.Live
+  pub moves : now.text.buffer.can.seekable ≡ true
+  pub reads : was.text.buffer.can.readable ≡ true → now.text.buffer.can.readable ≡ true
   pub forward : now.text.buffer.can.appending ≡ false
-  pub settings : now.text.settings ≡ was.text.settings
+  pub encoding : now.text.settings.encoding ≡ was.text.settings.encoding
+  pub handler : now.text.settings.handler ≡ was.text.settings.handler
+  pub newline : now.text.settings.newline ≡ was.text.settings.newline
   pub bytes : (state.file_of now).bytes ≡ (state.file_of was).bytes
   pub reach : length (state.file_of was).bytes ≤ greatest_place
 
@@ -135,6 +155,17 @@ pub record GoesBackFrom (was now : TextState) : Type 0 where
 pub record IsBack (was : TextState) (told : TextIOCookie) (reply : Reply) (after : TextState) : Type 0 where
   pub says : said reply ≡ Cookie (cookie_bytes (cookie_shown told))
   pub rest : text_rest (state.file_of after) ≡ text_rest (state.file_of was)
+
+-- What a session's cookies are worth, over a raw that tells. Any session that calls lead to from there is reached; and a text of it that may
+-- go back to where another told, in this session or in one before it, does so by a `SeekText` of the cookie that this told, in which no count
+-- of the raw rises and memory suffices
+pub record BringsBack (opened : SessionView) : Type 0 where
+  pub reached : (calls : List Call) (replies : List Reply) (session : SessionView) → IsRun opened calls replies session → IsReached session
+  pub back : (was told now after : TextState) (cookie : TextIOCookie) (calls : List Call) (replies : List Reply) (says : Reply)
+      → IsReached (TextSession was) → Answers (TextSession was) call.Tell (reply.Cookie cookie) (TextSession told)
+      → IsRun opened calls replies (TextSession now) → GoesBackFrom was now
+      → Answers (TextSession now) (call.SeekText (cookie_bytes (cookie_shown cookie)) (pos 0)) says (TextSession after)
+      → IsSmooth now.text.buffer.raw after.text.buffer.raw → said says ≢ Refused fault.NoMemory → IsBack was cookie says after
 
 -- Histories, and runs in parts.
 

@@ -26,7 +26,7 @@ ghost use Rattle.py_open.specs.Opening.{OpensSession, RefusesSession};
 ghost use Rattle.py_open.specs.OpenedFile.{opened_file};
 ghost use Rattle.py_open.specs.Paths.{raw_mode, RefusesOrLacks};
 ghost use Rattle.py_open.specs.Run.{Entry, IsRun, IsHistory, IsCalm, IsSmooth, NoneLacksMemory, AllSettle, all_said, calls_of, replies_of};
-ghost use Rattle.py_open.specs.Laws.{AlikeButSizes, NoneTellsSize, is_text, IsSmoothRun, IsExact, KnowsAnswers, HasHistory, RunsInTwo, RunsComplete, GoesBackFrom, IsBack, KeepsSettings, OnlyReads, PassesAll, HoldsFlat, StaysClosed, StaysDetached, FileStaysDetached};
+ghost use Rattle.py_open.specs.Laws.{AlikeButSizes, NoneTellsSize, is_text, IsSmoothRun, IsExact, KnowsAnswers, HasHistory, RunsInTwo, RunsComplete, IsReached, GoesBackFrom, IsBack, BringsBack, KeepsSettings, OnlyReads, PassesAll, HoldsFlat, StaysClosed, StaysDetached, FileStaysDetached};
 
 /// A run over a raw that tells, in which no count of the raw rose and no call ran out of memory, is the model's: there is a flat
 /// file between any two calls, and each reply is what the file there answers, exactly, but that a single transfer gives some front
@@ -83,12 +83,24 @@ pub fn a_calm_history_settles()
     ensures { (before : SessionFile) (entries : List Entry) (after : SessionFile) → IsHistory before entries after → IsCalm entries → AllSettle before (calls_of entries) (all_said (replies_of entries)) after }
 {}
 
-/// A text goes back to where it told. In a run of a text session from its opening over a raw that tells, whatever came in between, a
-/// `SeekText` by the cookie that a `Tell` answered puts the text where the same is left as at that `Tell`, and answers that cookie: where the
-/// text is live then, has its bytes and settings as they were, and no more bytes than a stream can have, and where in this call no count of
-/// the raw rose and memory sufficed. Not said is it of a text that appends, which isn't put anywhere.
+/// A session over a raw that tells is reached: as a plan opens it, and where calls lead from there.
+pub fn a_run_reaches_its_sessions()
+    ensures opened { (raw : Raw) (plan : OpenPlan) (session : SessionView) → IsTrue (tells raw) → IsPlanned plan → OpensSession raw plan session → IsReached session }
+    ensures kept { (before : SessionView) (calls : List Call) (replies : List Reply) (after : SessionView) → IsReached before → IsRun before calls replies after → IsReached after }
+{}
+
+/// A text goes back to where it told. Of two texts of sessions over raws that tell, each as calls left it, one may be a later state of the
+/// other's session, or of another session, of another mode too, over the same bytes. Then a `SeekText` by the cookie that a `Tell` of the
+/// first answered puts the second where the same is left as at that `Tell`, and answers that cookie: where the second is live, can be moved,
+/// and read where the first can, doesn't append, and has the first's bytes, encoding, handler and newline rule, and no more bytes than a
+/// stream can have, and where in this call no count of the raw rose and memory sufficed.
 pub fn a_text_goes_back_to_where_it_told()
-    ensures { (plan : OpenPlan) (raw : Raw) (opened : SessionView) (was told now after : TextState) (front between : List Call) (replies others : List Reply) (cookie : TextIOCookie) (reply : Reply) → IsPlanned plan → OpensSession raw plan opened → IsTrue (tells (raw_of opened)) → IsRun opened front replies (TextSession was) → Answers (TextSession was) Tell (Cookie cookie) (TextSession told) → IsRun (TextSession told) between others (TextSession now) → GoesBackFrom was now → Answers (TextSession now) (SeekText (cookie_bytes (cookie_shown cookie)) (pos 0)) reply (TextSession after) → IsSmooth (raw_of (TextSession now)) (raw_of (TextSession after)) → said reply ≢ Refused fault.NoMemory → IsBack was cookie reply after }
+    ensures { (was told now after : TextState) (cookie : TextIOCookie) (reply : Reply) → IsReached (TextSession was) → Answers (TextSession was) Tell (Cookie cookie) (TextSession told) → IsReached (TextSession now) → GoesBackFrom was now → Answers (TextSession now) (SeekText (cookie_bytes (cookie_shown cookie)) (pos 0)) reply (TextSession after) → IsSmooth (raw_of (TextSession now)) (raw_of (TextSession after)) → said reply ≢ Refused fault.NoMemory → IsBack was cookie reply after }
+{}
+
+/// What a session's cookies are worth: over a raw that tells, of every session that a plan opens.
+pub fn cookies_bring_back()
+    ensures { (raw : Raw) (plan : OpenPlan) (opened : SessionView) → IsTrue (tells raw) → IsPlanned plan → OpensSession raw plan opened → BringsBack opened }
 {}
 
 /// A run has one reply for each call.

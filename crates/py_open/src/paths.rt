@@ -1,8 +1,9 @@
 //! Opening a path: what a mode and arguments set up, over a raw stream that an opener opens for it.
-ghost use Rattle.std.specs.Prelude.{◌≡◌, chars, codes, option_map, IsTrue, Some};
+ghost use Rattle.std.specs.Prelude.{◌≡◌, chars, codes, option_map, IsTrue, IfOk, Some};
 ghost use Rattle.py_calls.specs.OpenArgs.{default_args};
 ghost use Rattle.py_calls.specs.Plan.{IsPlanned};
 ghost use Rattle.py_raw.specs.Opener.{OpenKeeps};
+ghost use Rattle.py_open.specs.Laws.{IsReached};
 ghost use Rattle.py_open.specs.Paths.{mode_or_r, PathOutcome, IoOpenOutcome, FailsWhereMissed};
 
 use crate::laws::{an_opened_raw_suits_its_plan, an_opened_session_is_the_file_of_its_path};
@@ -23,6 +24,7 @@ fn open_planned<O: Opener>(
     requires { IsPlanned plan }
     ensures keeps { OpenKeeps (O.shows opener.old) (O.shows opener.new) }
     ensures outcome { PathOutcome O.Raw.shows (O.shows opener.old) path.now plan result (O.shows opener.new) }
+    ensures reached { IfOk result (λ session. IsTrue (O.shows opener.old).tells → IsReached session) }
 {
     an_opened_raw_suits_its_plan();
     an_opened_session_is_the_file_of_its_path();
@@ -61,6 +63,9 @@ fn open_planned<O: Opener>(
 /// it fails to say where it stands or ends, or to move there, and as `Unsupported` where it can't seek and is both read and
 /// written through a buffer; that raw is for the opener to take back too, and `?` lets it go. A path that `w` emptied, or that was made,
 /// stays so then, and a codec that a search function found is kept, as an accepted plan keeps it.
+///
+/// Over an opener that tells, a session is reached: its text goes back to where another told, of a session before it over the same bytes
+/// (`a_text_goes_back_to_where_it_told`).
 pub fn io_open<O: Opener, S: SearchFunction, H: Copy>(
     alloc: Global,
     opener: &mut O,
@@ -74,6 +79,7 @@ pub fn io_open<O: Opener, S: SearchFunction, H: Copy>(
         (mode_or_r (option_map (λ text. text.now) mode.entry)) args.now result (O.shows opener.new) registry.new }
     ensures missed { IsTrue (O.shows opener.old).tells → FailsWhereMissed S.finds registry.old (O.shows opener.old) path.now
         (mode_or_r (option_map (λ text. text.now) mode.entry)) args.now result }
+    ensures reached { IfOk result (λ session. IsTrue (O.shows opener.old).tells → IsReached session) }
 {
     match plan_open(registry, alloc, mode.unwrap_or("r"), args) {
         Ok(plan) => open_planned(alloc, opener, path, plan),

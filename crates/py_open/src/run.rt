@@ -1,6 +1,9 @@
 //! Runs: a session that is opened, and a list of calls that are made on it in order.
+ghost use Rattle.std.specs.Prelude.{IsTrue, IfOk};
+ghost use Rattle.py_raw.specs.RawStream.{tells};
 ghost use Rattle.py_stream.specs.Opening.{StandsAtStart};
 ghost use Rattle.py_calls.specs.Plan.{IsPlanned};
+ghost use Rattle.py_open.specs.Laws.{IsReached};
 ghost use Rattle.py_open.specs.Run.{OpenedOutcome, RunOutcome};
 
 use crate::session::raw_refusal;
@@ -26,9 +29,10 @@ pub struct Run<R: RawStream> {
 ///
 /// The replies are a run of the model from the opening's flat file to the session's own: for every raw, told or not,
 /// each has its cause; where the raw tells, each is the model's, whatever pieces the raw moves and whatever the sizes of
-/// buffer and chunks are. There a seek by a cookie that the text told answers that cookie, and what was left then is left again, if the text
-/// is live, doesn't append, has its bytes and settings as they were and no more bytes than a stream can have, and the seek neither waits nor
-/// fails, and has memory (`a_text_goes_back_to_where_it_told`).
+/// buffer and chunks are. There each session of the run is reached from the opening: so a seek by a cookie that a text told, in this run or in
+/// another over the same bytes, answers that cookie, and what was left then is left again, if the text is live, can be moved and read, doesn't
+/// append, has the encoding, handler and newline rule that the other had and no more bytes than a stream can have, and the seek neither waits nor fails, and has memory
+/// (`a_text_goes_back_to_where_it_told`, `cookies_bring_back`).
 ///
 /// Refused, the raw is handed back with nothing read or written: by the plan (`plan_open`), which leaves the registry as it was; then as
 /// `run_planned` says, with the registry as the plan left it.
@@ -41,7 +45,8 @@ pub fn run_session<R: RawStream, S: SearchFunction, H: Copy>(
     calls: &[Call],
 ) -> Result<Run<R>, OpenRefused<R>>
     requires { StandsAtStart (R.shows raw) }
-    ensures { RunOutcome S.finds registry.old R.shows raw mode.now args calls.now result registry.new }
+    ensures outcome { RunOutcome S.finds registry.old R.shows raw mode.now args calls.now result registry.new }
+    ensures reached { IfOk result (λ run. IsTrue (tells (R.shows raw)) → IsReached run.session) }
 {
     match plan_open(registry, alloc, mode, &args) {
         Ok(plan) => run_planned(alloc, raw, plan, calls),
@@ -63,7 +68,8 @@ pub fn run_planned<R: RawStream>(
 ) -> Result<Run<R>, OpenRefused<R>>
     requires planned { IsPlanned plan }
     requires start { StandsAtStart (R.shows raw) }
-    ensures { OpenedOutcome R.shows raw plan calls.now result }
+    ensures outcome { OpenedOutcome R.shows raw plan calls.now result }
+    ensures reached { IfOk result (λ run. IsTrue (tells (R.shows raw)) → IsReached run.session) }
 {
     if let Some(fault) = raw_refusal(&raw, plan) {
         return Err(OpenRefused { raw, fault });

@@ -4,6 +4,7 @@ ghost use Rattle.py_stream.specs.Opening.{StandsAtStart, first_refusal};
 ghost use Rattle.py_open.specs.Session.{Answers, ClosesRaw, life_of, short_of, raw_of, owed_of};
 ghost use Rattle.py_calls.specs.Plan.{IsPlanned, buffer_of};
 ghost use Rattle.py_open.specs.Kinds.{seen, IsSession};
+ghost use Rattle.py_open.specs.Laws.{IsReached};
 ghost use Rattle.py_open.specs.Opening.{SessionOutcome, access_of, suits_plan, place_handed};
 
 use crate::text_calls::answer_text;
@@ -129,13 +130,15 @@ impl<R: RawStream> Session<R> {
     ///   or `ReadLines` of bytes fails the session once bytes left the raw, a write of bytes once the raw took some of its bytes, and each
     ///   call of a text that passes on what was written once its buffer took some.
     ///
-    /// A `Close` of a live session that is `Done` has closed the raw, of every kind of session, and leaves nothing owed.
+    /// A `Close` of a live session that is `Done` has closed the raw, of every kind of session, and leaves nothing owed. A session that was
+    /// reached from its opening over a raw that tells, still is: so its text goes back to where one told (`a_text_goes_back_to_where_it_told`).
     ///
     /// The rules are those of Python's `io`; what waits, faults and refused ranges leave is this project's choice
     /// (docs/DECISIONS.md).
     pub fn call(&mut self, alloc: Global, call: &Call) -> Reply
         ensures answers { Answers self.old call.now result self.new }
         ensures closes { ClosesRaw self.old call.now result self.new }
+        ensures reached { IsReached self.old → IsReached self.new }
     {
         answer_kind(alloc, &mut self.kind, call)
     }

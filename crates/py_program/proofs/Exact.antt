@@ -39,7 +39,10 @@ use Rattle.py_open.specs.Paths.{raw_mode}
 use Rattle.py_program.specs.Outcome.{Outside, asked_by, own_text, closed_calls, OpensPath, FollowsPlan, PlannedOutcome, RunsScript, Outcome, Ends}
 use Rattle.py_program.specs.Meaning.{RawsAreReady, PrintsReplies, PrintsSettled, PrintsExactly}
 use Rattle.py_program.proofs.Planned.{one_plan}
-use Rattle.py_program.proofs.Keeping.{opening_keeps, opened_to_read, file_read}
+use Rattle.py_calls.proofs.Planning.{planned_may_open}
+use Rattle.py_open.proofs.Back.{brings_back}
+use Rattle.py_open.proofs.Reached.{opening_keeps}
+use Rattle.py_program.proofs.Keeping.{opened_to_read, file_read}
 
 -- a count that was added, and with which the sum didn't rise, was 0
 stays_unrisen : (before mid after opened back : ℕ) → mid ≡ before → after ≡ counted mid back → rose before after ≡ false → rose opened back ≡ false
@@ -134,6 +137,7 @@ replies_of path mode args words old new before after did same =
       waits = opened.done_keeps.raw_waits ∙ ap (λ (old_count : ℕ). counted old_count opened.back.waits) opened.open_keeps.raw_waits ∙ ap (λ (raw : Raw). counted before.opener.raw_waits raw.waits) ran.raw_is;
       holds = λ tells. (opened.puts tells).held ∙ ap (λ (raw : Raw). Some raw.bytes) ran.raw_is;
       flat = opened.flat opened.does.0 ran;
+      cookies = λ tells. brings_back opened.raw follows.plan ran.run.opened (opened.opens.told tells).tells (planned_may_open _ _ did.mode did.args follows.plan follows.planned) ran.run.opens;
       complete = λ ready. smooth_completes ran.run.opened (closed_calls did.calls) ran.replies ran.session ran.run.run (smooth_raw before after (raw_of ran.run.opened) (raw_of ran.session) ready
           (opened.done_keeps.raw_waits ∙ ap (λ (old_count : ℕ). counted old_count opened.back.waits) opened.open_keeps.raw_waits ∙ ap (λ (raw : Raw). counted before.opener.raw_waits raw.waits) ran.raw_is)
           (opened.done_keeps.raw_faults ∙ ap (λ (old_count : ℕ). counted old_count opened.back.faults) opened.open_keeps.raw_faults ∙ ap (λ (raw : Raw). counted before.opener.raw_faults raw.faults) ran.raw_is));

@@ -25,6 +25,7 @@ use Rattle.py_open.specs.Session.{SessionView, TextSession, BinarySession, raw_o
 use Rattle.py_open.specs.Opening.{access_by, access_of, OpensBy}
 use Rattle.py_open.specs.Run.{RefusesOpening}
 use Rattle.py_open.specs.Laws.{OnlyReads}
+use Rattle.py_open.proofs.Reached.{opening_keeps}
 use Rattle.py_open.proofs.Runs.{run_spares}
 use Rattle.py_program.specs.declared.status.Status.{Status}
 use Rattle.py_program.specs.declared.status.Status.TheVariants as status
@@ -54,15 +55,6 @@ others_of_both : (path : List ℕ) (old mid new : OpenerView) → OthersHoldTheS
 others_of_both path old mid new first second other differs = second other differs ∙ first other differs
 
 -- A raw that is only read keeps its bytes.
-
--- an opening leaves a raw's bytes
-pub opening_keeps : (planned : PlanKind) (opened : Access) (raw : Raw) (session : SessionView) → OpensBy planned opened raw session → Untouched raw (raw_of session)
-opening_keeps (kind.Text planned) opened raw (TextSession text) opens = opens.untouched
-opening_keeps (kind.Buffered size) opened raw (BinarySession stream) opens = opens.untouched
-opening_keeps kind.Bare opened raw (BinarySession stream) opens = opens.untouched
-opening_keeps (kind.Text planned) opened raw (BinarySession stream) opens = absurd opens
-opening_keeps (kind.Buffered size) opened raw (TextSession text) opens = absurd opens
-opening_keeps kind.Bare opened raw (TextSession text) opens = absurd opens
 
 bytes_to_read : (opened : Access) (raw : Raw) (buffer : Option ℕ) (stream : Stream) → opened ≡ access.Read → Opens (is_able opened buffer) (can_of opened) raw buffer stream → OnlyReads (BinarySession stream)
 bytes_to_read opened raw buffer stream reads opens = (ap (λ (can : Abilities). can.writable) (opens.can_do ∙ ap (λ (by : Access). can_of by raw.seekable) reads), opens.owed)

@@ -16,7 +16,7 @@ use Rattle.py_open.proofs.Resting.{run_rests}
 use Rattle.py_open.proofs.Ending.{step_passes, shown_where_told}
 use Rattle.py_open.specs.Paths.{raw_mode}
 use Rattle.py_program.specs.Outcome.{Asked, RanCalls, RawOutcome, OpensPath, PathHoldsFlat, CallsOutcome, after_done}
-use Rattle.py_program.proofs.Keeping.{opening_keeps}
+use Rattle.py_open.proofs.Reached.{opening_keeps}
 use Rattle.py_program.proofs.Printed.{rose_later}
 
 -- once a raw was put away, the path holds its bytes where the opener tells, whatever that answered

@@ -18,8 +18,8 @@ use crate::status::Status;
 use py_flat::IoFault;
 use py_open::{
     Call, OpenArgs, OpenPlan, OpenRefused, Run, a_smooth_run_is_complete,
-    an_ended_session_calls_no_raw, an_opened_raw_suits_its_plan, plan_open, run_planned,
-    what_is_passed_on_is_in_the_raw,
+    an_ended_session_calls_no_raw, an_opened_raw_suits_its_plan, cookies_bring_back, plan_open,
+    run_planned, what_is_passed_on_is_in_the_raw,
 };
 use py_raw::{OpenError, Opener, RawStream, Sink, Source};
 use py_registry::{CodecsRegistry, NoHandler, NoSearch};
@@ -64,8 +64,9 @@ use std::alloc::Global;
 ///   a Close on the file that the mode opens of what the path held, and the path holds the bytes of the file that these come to;
 /// - `printed`: with 0, what was printed is the lines of a run of calls, those of the whole script, where the source tells it, and
 ///   a Close; of an opener that tells, the path holds the raw's bytes in the end, the flat ones where a `Close` or `Detach` of a live
-///   session was done; where no raw failed or would have blocked, each call that isn't refused is answered by an answer of its own, or for
-///   running out of memory;
+///   session was done; a text goes back to where it told, or where another did, in this run of the program or in one before it over the
+///   same bytes, by the cookie that was told; where no raw failed or would have blocked, each call that isn't refused is answered by an
+///   answer of its own, or for running out of memory;
 /// - `help`, `version`: with 0 the text that was asked for was printed.
 pub fn run_program<O: Opener, I: Source, K: Sink>(
     alloc: Global,
@@ -83,6 +84,7 @@ pub fn run_program<O: Opener, I: Source, K: Sink>(
     a_smooth_run_prints_the_exact_replies();
     a_smooth_run_is_complete();
     what_is_passed_on_is_in_the_raw();
+    cookies_bring_back();
     an_ended_session_calls_no_raw();
     run_to_status(alloc, words, opener, script, out).code()
 }

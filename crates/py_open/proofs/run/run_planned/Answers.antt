@@ -28,8 +28,8 @@ by_tests able appends raw (Some zero) why false true shut can by =
 by_tests able appends raw buffer why false true shut can by = let never : None ≡ Some why = by in absurd (cc)
 
 -- a raw that is closed, or isn't able, or is to have a buffer of no bytes
-pub returns-in-Some : goal.returns-in-Some
-returns-in-Some g c =
+pub returns-in-Some-clause-outcome : goal.returns-in-Some-clause-outcome
+returns-in-Some-clause-outcome g c =
     let raw : Raw = g.R.RawStream.shows c.args.raw in
     let able : Raw → Bool = suits_plan c.args.plan in
     by_tests able (can_of (access_of c.args.plan.mode) raw.seekable).appending raw (buffer_of c.args.plan.kind) c.in-Some.fault raw.closed (able raw) refl refl (sym c.raw_refusal.ensures ∙ c.in-Some.is)
