@@ -64,8 +64,8 @@ fn open_planned<O: Opener>(
 /// written through a buffer; that raw is for the opener to take back too, and `?` lets it go. A path that `w` emptied, or that was made,
 /// stays so then, and a codec that a search function found is kept, as an accepted plan keeps it.
 ///
-/// Over an opener that tells, a session is reached: its text goes back to where another told, of a session before it over the same bytes
-/// (`a_text_goes_back_to_where_it_told`).
+/// A session over a raw that tells is reached from its opening, as over an opener that tells: so what `a_text_goes_back_to_where_it_told`
+/// says of cookies holds of it, and of any other session over the same bytes.
 pub fn io_open<O: Opener, S: SearchFunction, H: Copy>(
     alloc: Global,
     opener: &mut O,

@@ -127,11 +127,12 @@ impl<R: RawStream> Session<R> {
     /// - `CannotRestore` to a `SeekText` whose cookie skips characters that the bytes at its start don't give: the text stands there, clean.
     /// - `RawFault` where the raw failed: the session is failed from then on; after `Close` it is closed.
     /// - `NoMemory`: place and life stay, but for a `SeekText` as above, and the call may be made again; but a `Read`, `ReadInto`, `ReadLine`
-    ///   or `ReadLines` of bytes fails the session once bytes left the raw, a write of bytes once the raw took some of its bytes, and each
-    ///   call of a text that passes on what was written once its buffer took some.
+    ///   or `ReadLines` of bytes fails the session once bytes left the raw, a write of bytes once the raw took some of its bytes, a call of
+    ///   a text once the raw had some of the text's own bytes, and a `WriteText` with line buffering also once the buffer took all of them.
     ///
-    /// A `Close` of a live session that is `Done` has closed the raw, of every kind of session, and leaves nothing owed. A session that was
-    /// reached from its opening over a raw that tells, still is: so its text goes back to where one told (`a_text_goes_back_to_where_it_told`).
+    /// A `Close` of a live session that is `Done` has closed the raw, of every kind of session, and leaves nothing owed. A session
+    /// that was reached from its opening over a raw that tells still is: so it may go back to where a text told, as
+    /// `a_text_goes_back_to_where_it_told` says.
     ///
     /// The rules are those of Python's `io`; what waits, faults and refused ranges leave is this project's choice
     /// (docs/DECISIONS.md).

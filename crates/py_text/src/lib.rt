@@ -32,7 +32,7 @@ pub use examples::{
 pub use finding::{find_coder, is_of_stream};
 pub use laws::newline_pieces_read_as_one;
 pub use line_ends::has_line_end;
-pub use measuring::{WrittenSize, character_count, short_size, written_size};
+pub use measuring::{WrittenSize, character_count, short_bound, written_size};
 pub use newline_decoder::IncrementalNewlineDecoder;
 pub use pushing::push_written_text;
 pub use py_codec::IoFault;

@@ -3,10 +3,9 @@ ghost use Rattle.py_plain.specs.Encode.{refused_run, encode_treatment, encoded};
 ghost use Rattle.py_plain_text.specs.TextWriting.{written_bytes, written_refusal};
 ghost use Rattle.py_plain_text.specs.TextRefusals.{encode_error};
 ghost use Rattle.py_text.specs.EachWritten.{IsWhole};
-ghost use Rattle.py_text.specs.Written.{settings_of};
+ghost use Rattle.py_text.specs.Written.{settings_of, short_bound};
 
 use crate::Coder;
-use crate::own_bytes::stays;
 use crate::sizes::{SHORT, length_within};
 use py_blocks::count_starts;
 use py_codec::{HandlerRef, NoHandler, first_refusal};
@@ -43,18 +42,16 @@ fn refusal(coder: Coder, text: &str) -> Option<IoFault>
     }
 }
 
-/// At most how many bytes a short text in UTF-8 is written as by a newline rule: twice as many as it has. Nothing of it is refused. Of a
-/// longer text, and of one in another encoding, it isn't told: `written_size` measures them.
+/// At most how many bytes a text of up to 4096 bytes is written as in UTF-8, by a newline rule: twice as many. Nothing of it is refused. Of
+/// every other text it isn't told: `written_size` measures those.
 #[inline(always)]
-pub fn short_size(coder: Coder, newline: Newlines, text: &str) -> Option<usize>
+pub fn short_bound(coder: Coder, newline: Newlines, text: &str) -> Option<usize>
+    ensures bound { result ≡ short_bound coder.encoding (length text.now) }
     ensures whole { IfSome result (λ most. written_refusal (settings_of coder newline) (chars text.now) ≡ None) }
     ensures most { IfSome result (λ most. length (written_bytes (settings_of coder newline) (chars text.now)) ≤ most) }
 {
-    if text.len() > SHORT || !matches!(coder.encoding, Encoding::Utf8) {
-        return None;
-    }
-    match refusal(coder, text) {
-        None if stays(coder, text) => Some(text.len() * 2),
+    match coder.encoding {
+        Encoding::Utf8 if text.len() <= SHORT => Some(text.len() * 2),
         _ => None,
     }
 }

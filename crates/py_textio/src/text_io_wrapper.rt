@@ -30,12 +30,12 @@ use std::marker::Model;
 /// It is seen as the text over what its buffer is seen as (`TextOver`), and whether its last answer was short. Sizes and limits are
 /// characters; the chunk size and places from the start of the stream are bytes.
 ///
-/// Each call first answers by the life, with all as it was and the buffer not called: `Failed` after a fault (but a `detach`), `Closed`
-/// after a `close` (which may be called again), `Detached` after a `detach`; then it is `Unsupported` where the buffer lacks what the call
-/// needs. Else, where the raw failed in the call, it is `RawFault`: the text is failed from then on; after `close` it is closed. `NoMemory`
-/// means out of memory: place and life stay, and the call may be made again; but a `seek` by a cookie that skips may leave the text, clean,
-/// at the cookie's start, and a text that is written may be failed, where memory ran out while its buffer took or passed on what was
-/// written. A getter is never refused.
+/// Each call first answers by the life, with all as it was and the buffer not called: `Failed` once a fault or running out of memory failed
+/// it (but a `detach`), `Closed` after a `close` (which may be called again), `Detached` after a `detach`; then it is `Unsupported` where the
+/// buffer lacks what the call needs. Else, where the raw failed in the call, it is `RawFault`: the text is failed from then on; after `close`
+/// it is closed. `NoMemory` means out of memory: place and life stay, and the call may be made again; but a `seek` by a cookie that skips may
+/// leave the text, clean, at the cookie's start, and a text that is written is failed once the raw had some of its own bytes, by a `write`
+/// with line buffering also once its buffer took all of them. A getter is never refused.
 #[derive(Debug, Drop)]
 pub struct TextIOWrapper<B: BufferedStream> {
     attached: Option<AttachedText<B>>,
@@ -94,7 +94,7 @@ impl<B: BufferedStream> TextIOWrapper<B> {
     /// Reads the next `size` characters, or all that are left for `None`; fewer come only at the end.
     ///
     /// Where the raw would have blocked, what came by then is answered, never nothing, or it is `None` with nothing taken; `short`
-    /// says so. A wait hides nothing: then each character that the bytes taken from the raw so far surely give has been
+    /// says so. Where nothing is owed a wait hides nothing: then each character that the bytes taken from the raw so far surely give has been
     /// answered, and no refused range stands among them.
     ///
     /// `UnicodeDecodeError`, with byte places from the start of the stream, where a range that the handler refuses stands before the
@@ -124,7 +124,8 @@ impl<B: BufferedStream> TextIOWrapper<B> {
         }
     }
 
-    /// Asks its buffer for at most n bytes at once from here on. No answer hangs on it.
+    /// Asks its buffer for at most n bytes at once from here on, and keeps fewer than n of what is written. Where the raw neither waits nor
+    /// fails no answer hangs on it.
     ///
     /// `BadArgument` for 0.
     pub fn set_chunksize(&mut self, size: usize) -> Result<(), IoFault>
@@ -160,8 +161,8 @@ impl<B: BufferedStream> TextIOWrapper<B> {
     /// argument, where the handler refuses a run of characters; `TooFar` where the bytes would end past 9223372036854775807: with all as it
     /// was, and no memory taken. `WouldBlock` says how many bytes the text is written as: all are taken, and later calls pass them on.
     /// `RawFault`: the text is failed; all of the argument is taken, and what the buffer hasn't comes by `detach`, or none, where the raw
-    /// failed as a buffer that was read ahead went back. `NoMemory` leaves all as it was, but where the buffer ran out while it took bytes or
-    /// passed them on: then the text is failed, too.
+    /// failed as a buffer that was read ahead went back. `NoMemory` leaves all as it was, but once the raw had some of the text's own bytes, or,
+    /// with line buffering, the buffer took all of them: then the text is failed, too.
     pub fn write(&mut self, alloc: Global, text: &str) -> Result<usize, IoFault>
         ensures { Answers self.old (WriteText (chars text.now)) (count_reply result) self.new }
     {
@@ -193,8 +194,8 @@ impl<B: BufferedStream> TextIOWrapper<B> {
     /// `Unsupported` where the buffer can't be moved or appends, or by another cookie for whence 1 or 2; `BadWhence`; `InvalidCookie` for more
     /// than 25 bytes, a negative field or an order: with all as it was. `CannotRestore` where a cookie that skips doesn't fit the bytes at its
     /// start: the text stands there, clean. `WouldBlock`: the text stands where it stood, or, where the bytes fed were being read, clean at the
-    /// cookie's start; so too after `NoMemory`, there only over a raw that takes memory; where its buffer ran out while it took what was
-    /// written the text is failed.
+    /// cookie's start; so too after `NoMemory`, there only over a raw that takes memory; once the raw had some of the text's own bytes
+    /// that fails the text.
     pub fn seek(
         &mut self,
         alloc: Global,
@@ -213,7 +214,7 @@ impl<B: BufferedStream> TextIOWrapper<B> {
     /// Passes on all that was written: the raw has it then.
     ///
     /// `WouldBlock`: the raw would have blocked before all was passed on; what is left is owed still. `NoMemory` comes only of a raw that
-    /// takes memory.
+    /// takes memory; the text stays live, or is failed once the raw had some of its own bytes.
     pub fn flush(&mut self) -> Result<(), IoFault>
         ensures { Answers self.old Flush (done_reply result) self.new }
     {
@@ -227,7 +228,7 @@ impl<B: BufferedStream> TextIOWrapper<B> {
     /// again, which calls no raw.
     ///
     /// `WouldBlock`: the raw would have blocked before all was passed on, and the text stays live. `NoMemory` comes only of a raw that
-    /// takes memory; the text stays live, or is failed where memory ran out while its buffer took what was written.
+    /// takes memory; the text stays live, or is failed once the raw had some of its own bytes.
     pub fn close(&mut self) -> Result<(), IoFault>
         ensures { Answers self.old Close (done_reply result) self.new }
     {
@@ -243,8 +244,8 @@ impl<B: BufferedStream> TextIOWrapper<B> {
     /// and its settings, and every other call is `Detached`.
     ///
     /// `WouldBlock`: the raw would have blocked before all was passed on, and the text stays live. `RawFault`: the text is failed, and may be
-    /// detached as such. `NoMemory` comes only of a raw that takes memory; the text stays live, or is failed where memory ran out while its
-    /// buffer took what was written. `Closed` of a closed text, `Detached` of a detached one: with all as it was.
+    /// detached as such. `NoMemory` comes only of a raw that takes memory; the text stays live, or is failed once the
+    /// raw had some of its own bytes. `Closed` of a closed text, `Detached` of a detached one: with all as it was.
     pub fn detach(&mut self) -> Result<TextDetached<B>, IoFault>
         ensures outcome { DetachOutcome B.shows self.old result self.new }
         ensures room { IfOk result (λ parts. HasRoomBehind B.shows parts) }
@@ -321,7 +322,7 @@ impl<B: BufferedStream> TextIOWrapper<B> {
     }
 
     /// Whether the raw would have blocked before the last call was answered in full: its answer is the characters that came by
-    /// then, or `None`. It is false before the first call, and after a call that the wait didn't cut short.
+    /// then, or `None`, or a refusal that says so. It is false before the first call, and after a call that the wait didn't cut short.
     pub fn short(&self) -> bool
         ensures { result ≡ self.now.short }
     {
@@ -350,7 +351,7 @@ impl<B: BufferedStream> TextIOWrapper<B> {
         }
     }
 
-    /// The handler of bytes that spell no character.
+    /// The handler of bytes that spell no character, and of characters that have no bytes.
     pub fn errors(&self) -> Handler
         ensures { result ≡ self.now.text.settings.handler }
     {

@@ -27,7 +27,7 @@ use py_stream::BufferedStream;
 use py_telling::Told;
 use py_text::{
     Reconfigure, TextSettings, WrittenSize, character_count, has_line_end, is_of_stream,
-    push_written_text, short_size, written_size,
+    push_written_text, short_bound, written_size,
 };
 use std::alloc::Global;
 use std::marker::Model;
@@ -651,8 +651,8 @@ impl<B: BufferedStream> WrittenText<B> {
         }
     }
 
-    /// Whether a text of at most so many bytes is only kept, behind others that are owed: all come to less than a chunk then, and nothing is
-    /// passed on at once.
+    /// Whether it is seen at once that a text of at most so many bytes is only kept, behind others that are owed: all come to less than a
+    /// chunk then, and nothing is passed on at once.
     fn is_kept(&self, most: usize) -> bool
         ensures { result ≡ true → IsKept self.now most }
     {
@@ -666,17 +666,17 @@ impl<B: BufferedStream> WrittenText<B> {
             && most as u128 <= self.room()
     }
 
-    /// At most how many bytes a text is written as, where it is only kept.
-    fn kept_size(&self, text: &str) -> Option<usize>
+    /// At most how many bytes a text is written as, where it is seen at once that it is only kept.
+    fn kept_bound(&self, text: &str) -> Option<usize>
         ensures kept { IfSome result (λ most. IsKept self.now most) }
         ensures whole { IfSome result (λ most. written_refusal self.now.text.settings (chars text.now) ≡ None) }
         ensures most { IfSome result (λ most. length (written_bytes self.now.text.settings (chars text.now)) ≤ most) }
     {
-        let most = short_size(self.text.coder(), self.text.settings().newline, text)?;
-        if self.is_kept(most) { Some(most) } else { None }
+        let most = short_bound(self.text.coder(), self.text.settings().newline, text)?;
+        self.is_kept(most).then_some(most)
     }
 
-    /// Keeps a text of at most so many bytes behind those that are owed, and calls no buffer.
+    /// Keeps a text of at most so many bytes behind those that are owed, which the buffer isn't given.
     fn keep(&mut self, alloc: Global, text: &str, most: usize) -> Result<usize, IoFault>
         requires live { self.old.life ≡ Life.Live }
         requires writes { self.old.text.buffer.can.writable ≡ true }
@@ -690,6 +690,7 @@ impl<B: BufferedStream> WrittenText<B> {
         let _ = self.life();
         match self.put(alloc, text, most) {
             Ok(_) => {
+                // What holds of every text is known of it as it is now.
                 let _ = self.life();
                 Ok(character_count(text))
             }
@@ -708,7 +709,7 @@ impl<B: BufferedStream> WrittenText<B> {
         if self.text.is_dirty() {
             return Err(IoFault::SeekFirst);
         }
-        match self.kept_size(text) {
+        match self.kept_bound(text) {
             Some(most) => self.keep(alloc, text, most),
             None => self.measure_and_write(alloc, text),
         }
