@@ -87,8 +87,9 @@ impl<S: ReadOnce> Read for StdStream<S> {
 
     /// Fills `buf` with the next bytes, by as many readings as that takes. `UnexpectedEof`: fewer are left, as a reading that gave none said.
     ///
-    /// Every other error is that of the last reading: `WouldBlock` where the raw would have blocked, else that of its refusal. Those bytes that came before an error stand at the front of `buf`, and aren't left; how many
-    /// they are isn't told, as of std's own: where that matters, `read`.
+    /// Every other error is that of the last reading: `WouldBlock` where the raw would have blocked, else that of its refusal. Those bytes that
+    /// came before an error stand at the front of `buf`, and are no longer to be read; how many they are isn't told, as of std's own: where
+    /// that matters, `read`.
     fn read_exact(&mut self, buf: &mut [u8]) -> io::Result<()>
         ensures bytes { OnOk result (Consumes (S.left self.old) (S.left self.new) buf.new) }
         ensures part { IfErr result (λ error. GivesFront (S.left self.old) buf.old buf.new (S.left self.new)) }
@@ -159,10 +160,11 @@ impl<S: BufferedStream> Write for StdStream<S> {
 
     ghost contents = { λ stream. written_in (S.shows stream) };
 
-    /// Takes bytes at the place, and answers how many: all of them but where the raw would have blocked or failed once some were taken.
+    /// Takes bytes at the place, and answers how many: all of them but where the raw would have blocked or failed, or memory ran out, once
+    /// some were taken.
     ///
     /// An error took none: `WouldBlock` where the raw would have blocked, else that of a refusal of the stream's `write`. What went wrong
-    /// after some bytes the next call tells, as std has it: where the raw failed, that the stream did.
+    /// after some bytes the next call tells, as std has it: where the raw failed or memory ran out, that the stream did.
     #[inline(always)]
     fn write(&mut self, buf: &[u8]) -> io::Result<usize>
         ensures bound { WritesAtMost result buf.now }

@@ -62,7 +62,7 @@ use Rattle.py_open.specs.TextOpening.{text_opened, OpensText}
 use Rattle.py_open.specs.Session.{OfText, SessionView, TextSession, BinarySession, IsDetachedText, LeftBy, AnswersTextBy, Answers, raw_of, file_seen, life_of}
 use Rattle.py_open.specs.Opening.{access_of, text_settings, OpensBy, OpensSession}
 use Rattle.py_open.specs.Run.{IsRun, IsSmooth}
-use Rattle.py_open.specs.Laws.{left_exactly, session_exact, IsReached, GoesBackFrom, IsBack, BringsBack}
+use Rattle.py_open.specs.Laws.{left_exactly, session_exact, IsReached, GoesBackFrom, IsBack, GoesBackBy, BringsBack}
 use Rattle.py_open.proofs.Reached.{opening_keeps, run_reached}
 use Rattle.py_open.proofs.TextLeft.{call_life}
 use Rattle.py_open.proofs.Steps.{step_keeps, step_told, smooth_step}
@@ -384,7 +384,13 @@ goes_back was after_tell now after seen says reached tell_step later back step s
     (text_same (state.file_of after) (session_exact (state.file_of now) (call.SeekText bytes (pos zero))).1 is.leaves) in
     record { says = both.0; rest = both.1 }
 
--- what the cookies of a session are worth that a plan opens over a raw that tells
+-- a seek by a cookie that was told
+pub goes_back_by : (before : SessionView) (call : Call) (says : Reply) (after : SessionView) → Answers before call says after → GoesBackBy before call says after
+goes_back_by (TextSession now) (call.SeekText bytes (pos zero)) says (TextSession after) step = λ was after_tell seen are there tell_step later back smooth had.
+    goes_back was after_tell now after seen says there tell_step later back (subst (λ (sought : List ℕ). Answers (TextSession now) (call.SeekText sought (pos zero)) says (TextSession after)) are step) smooth had
+goes_back_by before call says after step = tt
+
+-- of a session that a plan opens over a raw that tells
 pub brings_back : (raw : Raw) (plan : OpenPlan) (opened : SessionView) → IsTrue (tells raw) → IsPlanned plan → OpensSession raw plan opened → BringsBack opened
 brings_back raw plan opened told planned opens = record {
   reached = λ calls replies session run. run_reached raw plan opened calls replies session told planned opens run;

@@ -1,5 +1,5 @@
 -- What holds of whole runs, whatever raw is below.
-use Rattle.std.specs.Prelude.{◌≡◌, ◌≢◌, ◌⊎◌, ◌≤◌, Bool, true, false, IsTrue, ℕ, pos, List, [], ◌∷◌, length, Option, None, is_some}
+use Rattle.std.specs.Prelude.{◌≡◌, ◌≢◌, ◌⊎◌, ◌≤◌, Bool, true, false, IsTrue, ℕ, zero, pos, List, [], ◌∷◌, length, Option, None, is_some}
 use Rattle.py_flat.specs.declared.fault.IoFault.TheVariants as fault
 use Rattle.py_flat.specs.declared.life.Life.{Life}
 use Rattle.py_flat.specs.declared.life.Life.TheVariants as life
@@ -156,9 +156,18 @@ pub record IsBack (was : TextState) (told : TextIOCookie) (reply : Reply) (after
   pub says : said reply ≡ Cookie (cookie_bytes (cookie_shown told))
   pub rest : text_rest (state.file_of after) ≡ text_rest (state.file_of was)
 
--- What a session's cookies are worth, over a raw that tells. Any session that calls lead to from there is reached; and a text of it that may
--- go back to where another told, in this session or in one before it, does so by a `SeekText` of the cookie that this told, in which no count
--- of the raw rises and memory suffices
+-- a `SeekText`, from the start, of the cookie that another text told, of the same session or of any other, goes back to where that told,
+-- where both texts were reached, the one may go back to where the other told, no count of the raw rose in the call, and memory sufficed
+abbrev pub GoesBackBy : SessionView → Call → Reply → SessionView → Type 0
+GoesBackBy (TextSession now) (call.SeekText bytes (pos zero)) says (TextSession after) =
+    (was told : TextState) (cookie : TextIOCookie) → bytes ≡ cookie_bytes (cookie_shown cookie)
+    → IsReached (TextSession was) → Answers (TextSession was) call.Tell (reply.Cookie cookie) (TextSession told)
+    → IsReached (TextSession now) → GoesBackFrom was now
+    → IsSmooth now.text.buffer.raw after.text.buffer.raw → said says ≢ Refused fault.NoMemory → IsBack was cookie says after
+GoesBackBy before call says after = Unit {0}
+
+-- Over a raw that tells a session that a plan opened, and each to which calls lead from there, is reached; and a text of it that may go back
+-- to where another told does so by a `SeekText` of the cookie that this told, in which no count of the raw rises and memory suffices
 pub record BringsBack (opened : SessionView) : Type 0 where
   pub reached : (calls : List Call) (replies : List Reply) (session : SessionView) → IsRun opened calls replies session → IsReached session
   pub back : (was told now after : TextState) (cookie : TextIOCookie) (calls : List Call) (replies : List Reply) (says : Reply)

@@ -2,7 +2,9 @@
 ghost use Rattle.std.specs.Prelude.{◌≡◌, chars, codes, option_map, IsTrue, IfOk, Some};
 ghost use Rattle.py_calls.specs.OpenArgs.{default_args};
 ghost use Rattle.py_calls.specs.Plan.{IsPlanned};
+ghost use Rattle.py_raw.specs.RawStream.{tells};
 ghost use Rattle.py_raw.specs.Opener.{OpenKeeps};
+ghost use Rattle.py_open.specs.Session.{raw_of};
 ghost use Rattle.py_open.specs.Laws.{IsReached};
 ghost use Rattle.py_open.specs.Paths.{mode_or_r, PathOutcome, IoOpenOutcome, FailsWhereMissed};
 
@@ -24,7 +26,7 @@ fn open_planned<O: Opener>(
     requires { IsPlanned plan }
     ensures keeps { OpenKeeps (O.shows opener.old) (O.shows opener.new) }
     ensures outcome { PathOutcome O.Raw.shows (O.shows opener.old) path.now plan result (O.shows opener.new) }
-    ensures reached { IfOk result (λ session. IsTrue (O.shows opener.old).tells → IsReached session) }
+    ensures reached { IfOk result (λ session. IsTrue (tells (raw_of session)) → IsReached session) }
 {
     an_opened_raw_suits_its_plan();
     an_opened_session_is_the_file_of_its_path();
@@ -64,8 +66,8 @@ fn open_planned<O: Opener>(
 /// written through a buffer; that raw is for the opener to take back too, and `?` lets it go. A path that `w` emptied, or that was made,
 /// stays so then, and a codec that a search function found is kept, as an accepted plan keeps it.
 ///
-/// A session over a raw that tells is reached from its opening, as over an opener that tells: so what `a_text_goes_back_to_where_it_told`
-/// says of cookies holds of it, and of any other session over the same bytes.
+/// A session over a raw that tells is reached, so that `a_text_goes_back_to_where_it_told` speaks of its cookies, and of those that another
+/// session over the same bytes told.
 pub fn io_open<O: Opener, S: SearchFunction, H: Copy>(
     alloc: Global,
     opener: &mut O,
@@ -79,7 +81,7 @@ pub fn io_open<O: Opener, S: SearchFunction, H: Copy>(
         (mode_or_r (option_map (λ text. text.now) mode.entry)) args.now result (O.shows opener.new) registry.new }
     ensures missed { IsTrue (O.shows opener.old).tells → FailsWhereMissed S.finds registry.old (O.shows opener.old) path.now
         (mode_or_r (option_map (λ text. text.now) mode.entry)) args.now result }
-    ensures reached { IfOk result (λ session. IsTrue (O.shows opener.old).tells → IsReached session) }
+    ensures reached { IfOk result (λ session. IsTrue (tells (raw_of session)) → IsReached session) }
 {
     match plan_open(registry, alloc, mode.unwrap_or("r"), args) {
         Ok(plan) => open_planned(alloc, opener, path, plan),

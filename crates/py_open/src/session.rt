@@ -4,7 +4,7 @@ ghost use Rattle.py_stream.specs.Opening.{StandsAtStart, first_refusal};
 ghost use Rattle.py_open.specs.Session.{Answers, ClosesRaw, life_of, short_of, raw_of, owed_of};
 ghost use Rattle.py_calls.specs.Plan.{IsPlanned, buffer_of};
 ghost use Rattle.py_open.specs.Kinds.{seen, IsSession};
-ghost use Rattle.py_open.specs.Laws.{IsReached};
+ghost use Rattle.py_open.specs.Laws.{IsReached, GoesBackBy};
 ghost use Rattle.py_open.specs.Opening.{SessionOutcome, access_of, suits_plan, place_handed};
 
 use crate::text_calls::answer_text;
@@ -130,9 +130,9 @@ impl<R: RawStream> Session<R> {
     ///   or `ReadLines` of bytes fails the session once bytes left the raw, a write of bytes once the raw took some of its bytes, a call of
     ///   a text once the raw had some of the text's own bytes, and a `WriteText` with line buffering also once the buffer took all of them.
     ///
-    /// A `Close` of a live session that is `Done` has closed the raw, of every kind of session, and leaves nothing owed. A session
-    /// that was reached from its opening over a raw that tells still is: so it may go back to where a text told, as
-    /// `a_text_goes_back_to_where_it_told` says.
+    /// A `Close` of a live session that is `Done` has closed the raw, of every kind of session, and leaves nothing owed. Over a raw
+    /// that tells, a `SeekText` by a cookie that a text of this session, or of another over the same bytes, told brings back what was left there
+    /// (`a_text_goes_back_to_where_it_told` says when).
     ///
     /// The rules are those of Python's `io`; what waits, faults and refused ranges leave is this project's choice
     /// (docs/DECISIONS.md).
@@ -140,6 +140,7 @@ impl<R: RawStream> Session<R> {
         ensures answers { Answers self.old call.now result self.new }
         ensures closes { ClosesRaw self.old call.now result self.new }
         ensures reached { IsReached self.old → IsReached self.new }
+        ensures goes_back { GoesBackBy self.old call.now result self.new }
     {
         answer_kind(alloc, &mut self.kind, call)
     }

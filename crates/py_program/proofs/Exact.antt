@@ -137,7 +137,7 @@ replies_of path mode args words old new before after did same =
       waits = opened.done_keeps.raw_waits ∙ ap (λ (old_count : ℕ). counted old_count opened.back.waits) opened.open_keeps.raw_waits ∙ ap (λ (raw : Raw). counted before.opener.raw_waits raw.waits) ran.raw_is;
       holds = λ tells. (opened.puts tells).held ∙ ap (λ (raw : Raw). Some raw.bytes) ran.raw_is;
       flat = opened.flat opened.does.0 ran;
-      cookies = λ tells. brings_back opened.raw follows.plan ran.run.opened (opened.opens.told tells).tells (planned_may_open _ _ did.mode did.args follows.plan follows.planned) ran.run.opens;
+      cookies = λ told. brings_back opened.raw follows.plan ran.run.opened told (planned_may_open _ _ did.mode did.args follows.plan follows.planned) ran.run.opens;
       complete = λ ready. smooth_completes ran.run.opened (closed_calls did.calls) ran.replies ran.session ran.run.run (smooth_raw before after (raw_of ran.run.opened) (raw_of ran.session) ready
           (opened.done_keeps.raw_waits ∙ ap (λ (old_count : ℕ). counted old_count opened.back.waits) opened.open_keeps.raw_waits ∙ ap (λ (raw : Raw). counted before.opener.raw_waits raw.waits) ran.raw_is)
           (opened.done_keeps.raw_faults ∙ ap (λ (old_count : ℕ). counted old_count opened.back.faults) opened.open_keeps.raw_faults ∙ ap (λ (raw : Raw). counted before.opener.raw_faults raw.faults) ran.raw_is));

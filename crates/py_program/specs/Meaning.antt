@@ -81,8 +81,8 @@ pub record BeginsWith (raw : Raw) (bytes : List ℕ) : Type 0 where
 -- the path was opened as it is planned; calls and a Close were made over the raw, those of the script, where the source tells it; the
 -- lines of their replies were printed; the faults and waits of the raw were added to the opener's; and where the opener
 -- tells, the raw began at the start of what the mode leaves of the path's bytes, and the path holds the raw's bytes in the end, the flat
--- ones where a close or detach of a live session was done, and cookies bring back what was left where they were told. Where no raw failed or
--- would have blocked, each call that isn't refused is answered by an answer of its own, or when out of memory
+-- ones where a close or detach of a live session was done. Where the raw tells, texts go back to where one told, as `BringsBack` says. Where
+-- no raw failed or would have blocked, each call that isn't refused is answered by an answer of its own, or when out of memory
 pub record PrintsReplies (path mode : List ℕ) (args : OpenArgs) (old new : SourceView) (before after : Outside) : Type 0 where
   pub calls : List Call
   pub reads : IsTrue old.tells → ReadsScript old calls new
@@ -99,7 +99,7 @@ pub record PrintsReplies (path mode : List ℕ) (args : OpenArgs) (old new : Sou
   pub waits : RoseBy (raw_of session).waits before.opener.raw_waits after.opener.raw_waits
   pub holds : IsTrue before.opener.tells → after.opener.holds path ≡ Some (raw_of session).bytes
   pub flat : PathHoldsFlat path run.opened session before after
-  pub cookies : IsTrue before.opener.tells → BringsBack run.opened
+  pub cookies : IsTrue (raw_tells raw) → BringsBack run.opened
   pub complete : RawsAreReady before after → RunsComplete run.opened (closed_calls calls) replies session
 
 -- the words ask for an opening that the plan refuses

@@ -64,9 +64,9 @@ use std::alloc::Global;
 ///   a Close on the file that the mode opens of what the path held, and the path holds the bytes of the file that these come to;
 /// - `printed`: with 0, what was printed is the lines of a run of calls, those of the whole script, where the source tells it, and
 ///   a Close; of an opener that tells, the path holds the raw's bytes in the end, the flat ones where a `Close` or `Detach` of a live
-///   session was done; a text goes back to where it told, or where another did, in this run of the program or in one before it over the
-///   same bytes, by the cookie that was told; where no raw failed or would have blocked, each call that isn't refused is answered by an
-///   answer of its own, or for running out of memory;
+///   session was done; where the raw tells, a text goes back by a cookie to where it told, or to where one of another run over the same bytes
+///   did, as `BringsBack` says; where no raw failed or would have blocked, each call that isn't refused is answered by an answer of its own,
+///   or for running out of memory;
 /// - `help`, `version`: with 0 the text that was asked for was printed.
 pub fn run_program<O: Opener, I: Source, K: Sink>(
     alloc: Global,
