@@ -385,10 +385,14 @@ goes_back was after_tell now after seen says reached tell_step later back step s
     record { says = both.0; rest = both.1 }
 
 -- a seek by a cookie that was told
-pub goes_back_by : (before : SessionView) (call : Call) (says : Reply) (after : SessionView) → Answers before call says after → GoesBackBy before call says after
+goes_back_by : (before : SessionView) (call : Call) (says : Reply) (after : SessionView) → Answers before call says after → GoesBackBy before call says after
 goes_back_by (TextSession now) (call.SeekText bytes (pos zero)) says (TextSession after) step = λ was after_tell seen are there tell_step later back smooth had.
     goes_back was after_tell now after seen says there tell_step later back (subst (λ (sought : List ℕ). Answers (TextSession now) (call.SeekText sought (pos zero)) says (TextSession after)) are step) smooth had
 goes_back_by before call says after step = tt
+
+-- so, of a session as it is seen from within
+pub goes_back_from : (before inside : SessionView) (call : Call) (says : Reply) (after : SessionView) → inside ≡ before → Answers inside call says after → GoesBackBy before call says after
+goes_back_from before inside call says after same step = subst (λ (view : SessionView). GoesBackBy view call says after) same (goes_back_by inside call says after step)
 
 -- of a session that a plan opens over a raw that tells
 pub brings_back : (raw : Raw) (plan : OpenPlan) (opened : SessionView) → IsTrue (tells raw) → IsPlanned plan → OpensSession raw plan opened → BringsBack opened
