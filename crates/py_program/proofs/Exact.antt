@@ -22,7 +22,10 @@ use Rattle.py_stream.specs.declared.access.Access.TheVariants as access
 use Rattle.py_calls.specs.declared.open_args.OpenArgs.{OpenArgs}
 use Rattle.py_calls.specs.declared.plan.OpenPlan.{OpenPlan}
 use Rattle.py_calls.specs.Mode.{letter_of}
-use Rattle.py_calls.specs.Plan.{built_in_plan}
+use Rattle.py_calls.specs.Plan.{built_in_plan, IsPlanned}
+use Rattle.py_codec.specs.declared.no_handler.NoHandler.{NoHandler}
+use Rattle.py_registry.specs.declared.no_search.NoSearch.{NoSearch}
+use Rattle.py_registry.specs.Machine.{fresh}
 use Rattle.py_open.specs.Session.{SessionFile, OfText, SessionView, TextSession, BinarySession, file_seen, raw_of, life_of, bytes_in}
 use Rattle.py_open.specs.Opening.{access_of, OpensBy}
 use Rattle.py_open.specs.Run.{IsRun, IsSmooth, NoneLacksMemory, RunsCalls, AllSettle, all_said}
@@ -116,6 +119,10 @@ done_script words old new before after path mode args (inr own) form = absurd (n
 one_run : (path path' mode mode' : List ℕ) (args args' : OpenArgs) → Some (Run path mode args) ≡ Some (Run path' mode' args') → (path ≡ path') × (mode ≡ mode') × (args ≡ args')
 one_run path path' mode mode' args args' same = (cc, cc, cc)
 
+-- a plan by a new registry may open
+built_in_may_open : (mode : List ℕ) (args : OpenArgs) (plan : OpenPlan) → built_in_plan mode args ≡ Ok plan → IsPlanned plan
+built_in_may_open mode args plan is = planned_may_open {S = NoSearch} {H = NoHandler} (λ function name. None) fresh mode args plan is
+
 replies_of : (path mode : List ℕ) (args : OpenArgs) (words : List (List ℕ)) (old new : SourceView) (before after : Outside) → (did : RunsScript words status.Done old new before after) → (did.path ≡ path) × (did.mode ≡ mode) × (did.args ≡ args) → PrintsReplies did.path did.mode did.args old new before after
 replies_of path mode args words old new before after did same =
     let follows = follows_done did.path did.mode did.args did.calls before after did.does in
@@ -137,7 +144,7 @@ replies_of path mode args words old new before after did same =
       waits = opened.done_keeps.raw_waits ∙ ap (λ (old_count : ℕ). counted old_count opened.back.waits) opened.open_keeps.raw_waits ∙ ap (λ (raw : Raw). counted before.opener.raw_waits raw.waits) ran.raw_is;
       holds = λ tells. (opened.puts tells).held ∙ ap (λ (raw : Raw). Some raw.bytes) ran.raw_is;
       flat = opened.flat opened.does.0 ran;
-      cookies = λ told. brings_back opened.raw follows.plan ran.run.opened told (planned_may_open _ _ did.mode did.args follows.plan follows.planned) ran.run.opens;
+      cookies = λ told. brings_back opened.raw follows.plan ran.run.opened told (built_in_may_open did.mode did.args follows.plan follows.planned) ran.run.opens;
       complete = λ ready. smooth_completes ran.run.opened (closed_calls did.calls) ran.replies ran.session ran.run.run (smooth_raw before after (raw_of ran.run.opened) (raw_of ran.session) ready
           (opened.done_keeps.raw_waits ∙ ap (λ (old_count : ℕ). counted old_count opened.back.waits) opened.open_keeps.raw_waits ∙ ap (λ (raw : Raw). counted before.opener.raw_waits raw.waits) ran.raw_is)
           (opened.done_keeps.raw_faults ∙ ap (λ (old_count : ℕ). counted old_count opened.back.faults) opened.open_keeps.raw_faults ∙ ap (λ (raw : Raw). counted before.opener.raw_faults raw.faults) ran.raw_is));

@@ -26,7 +26,7 @@ returns-in-Ok-clause-outcome g c =
     let session = c.in-Ok.field-0.session in
     let replies : List Reply = c.in-Ok.field-0.replies.items in
     let calls_are : c.deref.result.now ≡ closed_calls c.args.calls.items = calls_closed c.args.calls.items c.push.new.self.items c.deref.result.now (is_ok c.push.result) c.if-is_err.ensures.negation c.push.ensures.items c.deref.ensures.value in
-    let planned : RunsCalls raw plan c.deref.result.now session replies = c.in-Ok.ensures in
+    let planned : RunsCalls raw plan c.deref.result.now session replies = c.in-Ok.ensures.outcome in
     replies_printed raw (asked_by plan c.args.calls.items) session (g.R.RawStream.shows c.finish.result.raw) replies old new c.print_replies.result c.status_of-status.result
     (subst (λ (calls : List Call). RunsCalls raw plan calls session replies) calls_are planned) c.finish.ensures.raw
     (subst (λ (printed : List Reply). PrintOutcome old (reply_lines printed) c.print_replies.result new) c.deref-in-Ok.ensures.value c.print_replies.ensures.outcome) c.status_of-status.ensures
@@ -37,4 +37,4 @@ returns-clause-outcome g c =
     let back : Raw = g.R.RawStream.shows c.in-Err.field-0.raw in
     let refused : IoFault = c.in-Err.field-0.fault in
     refused_printed raw back (asked_by c.args.plan c.args.calls.items) refused (g.K.Sink.shows c.args.out.now) (g.K.Sink.shows c.print_refused.new.out) c.print_refused.result c.status_of-status-in_default.result
-    (c.an_opened_raw_suits_its_plan.ensures raw back c.args.plan refused c.requires.planned c.requires.opened c.in-Err.ensures) c.in_default.not-NoMemory c.print_refused.ensures.outcome c.status_of-status-in_default.ensures
+    (c.an_opened_raw_suits_its_plan.ensures raw back c.args.plan refused c.requires.planned c.requires.opened c.in-Err.ensures.outcome) c.in_default.not-NoMemory c.print_refused.ensures.outcome c.status_of-status-in_default.ensures
