@@ -217,7 +217,9 @@ impl<S: BufferedStream> Seek for StdStream<S> {
     ghost use Rattle.std.specs.Prelude.{Some, IfSome, IfOk, pos};
     ghost use Rattle.std.specs.Io.KnownBytes.{Keeps};
     ghost use Rattle.std.specs.Io.Seek.{SeekMoves, StaysAt, MovesTo, MovesBy};
+    ghost use Rattle.py_flat.specs.Calls.{Tell};
     ghost use Rattle.py_stream.specs.Buffer.{TellsPlace};
+    ghost use Rattle.py_stream.specs.Replies.{place_reply};
     ghost use Rattle.py_adapters.specs.Known.{bytes_in};
     ghost use Rattle.py_adapters.specs.Answers.{AnsweredBy, Says, SeeksAs, MovedAs, IsntInterrupted};
 
@@ -270,7 +272,7 @@ impl<S: BufferedStream> Seek for StdStream<S> {
         ensures value { IfSome (Some (S.shows self.old).place) (λ at. IfOk result (λ n. n ≡ at)) }
         ensures stays { StaysAt (Some (S.shows self.old).place) (Some (S.shows self.new).place) }
         ensures bytes { Keeps (bytes_in (S.shows self.old)) (bytes_in (S.shows self.new)) }
-        ensures answers { AnsweredBy (λ came. TellsPlace (S.shows self.old) came (S.shows self.new)) (λ came. Says came result) }
+        ensures answers { AnsweredBy (λ came. S.own self.old Tell (place_reply came) self.new × TellsPlace (S.shows self.old) came (S.shows self.new)) (λ came. Says came result) }
         ensures retried { IsntInterrupted result }
     {
         io_result(self.stream.tell())

@@ -62,11 +62,14 @@ fn starts_in_few(bytes: &[u8]) -> usize
     starts_in_block(Block::from_array(block))
 }
 
-/// How many of some bytes begin a character of UTF-8: all but those from 0x80 to 0xBF. Many of them are counted at once, and those of ASCII
-/// aren't, as each begins one.
+/// How many of some bytes begin a character of UTF-8: all but those from 0x80 to 0xBF. Those of fewer than a block are counted at once; of
+/// more, those of ASCII aren't counted, as each begins one, and others a block at a time.
 pub fn count_starts(bytes: &[u8]) -> usize
     ensures { result ≡ count_by is_char_start bytes.now }
 {
+    if bytes.len() < BLOCK {
+        return starts_in_few(bytes);
+    }
     if bytes.is_ascii() {
         return bytes.len();
     }

@@ -1,6 +1,6 @@
 //! A buffered stream, as the layer above asks for one, whatever it is opened for.
 ghost use Rattle.std.specs.Prelude.{◌≡◌, false};
-ghost use Rattle.py_flat.specs.Calls.{Read1, Write, Seek, Flush, Close};
+ghost use Rattle.py_flat.specs.Calls.{Read1, Write, Seek, Tell, Flush, Close};
 ghost use Rattle.py_stream.specs.Replies.{bytes_reply, count_reply, place_reply, done_reply};
 ghost use Rattle.py_stream.specs.Answers.{Answers};
 ghost use Rattle.py_stream.specs.Buffer.{TellsPlace, AnswersEnd, AnswersAsBuffer};
@@ -55,6 +55,7 @@ impl<R: RawStream> BufferedStream for Buffered<R> {
 
     fn tell(&mut self) -> Result<u64, IoFault>
         ensures answers { TellsPlace (as_buffer self.old) result (as_buffer self.new) }
+        ensures own { Answers (seen_of self.old) Tell (place_reply result) (seen_of self.new) }
         ensures taken { self.new.taken ≡ self.old.taken }
     {
         Buffered::tell(self)

@@ -1,6 +1,6 @@
 //! What the layer above asks of a buffered stream.
 ghost use Rattle.std.specs.Prelude.{◌≡◌, true, false, unwrap_or};
-ghost use Rattle.py_flat.specs.Calls.{FileCall, FileReply, Read1, Write, Seek, Flush, Close};
+ghost use Rattle.py_flat.specs.Calls.{FileCall, FileReply, Read1, Write, Seek, Tell, Flush, Close};
 ghost use Rattle.py_flat.specs.Refusals.{is_unbuffered};
 ghost use Rattle.py_flat.specs.ExactStep.{is_closed};
 ghost use Rattle.py_stream.specs.Replies.{bytes_reply, count_reply, place_reply, done_reply};
@@ -40,7 +40,8 @@ pub trait BufferedStream {
 
     /// The place, without asking a raw.
     fn tell(&mut self) -> Result<u64, IoFault>
-        ensures { TellsPlace (shows self.old) result (shows self.new) };
+        ensures place { TellsPlace (shows self.old) result (shows self.new) }
+        ensures own { own self.old Tell (place_reply result) self.new };
 
     /// How many bytes there are; the place is kept.
     fn end(&mut self) -> Result<u64, IoFault>
