@@ -111,6 +111,7 @@ calm file lent was call reply left taken calmly =
       unwaited = λ reads gives none. refl;
       single = λ one none told. absurd (cc);
       once = λ one told. absurd (cc);
+      brings = λ reads can none. absurd (cc (calmly.writes));
       passes_first = λ some single asks given first. refl;
       starves = λ wanting writing fails. absurd (calmly.unfailed fails);
       takes = calmly.takes;

@@ -99,6 +99,7 @@ says_all old new one all first at answers told = record {
   stands = answers.stands;
   told = told;
   needs = λ gives. absurd (cc);
+  brings = λ gives. absurd (cc);
   hides = λ short gives. absurd (cc);
   stops = answers.stops;
   passes = answers.passes;

@@ -140,6 +140,7 @@ gone_answers can buffering settings raw call asks =
       stands = λ stood. stood;
       told = λ told. gone_step (file_of gone) call (gone_refuses (file_of gone) call refl asks);
       needs = λ gives told. inl (omega arith);
+      brings = λ gives can none. record { forth = omega arith; brought = λ told. omega arith };
       hides = λ short. absurd (cc);
       passes = passes_nothing gone call gone;
       by_own = moves_none_own call gone.text;

@@ -37,7 +37,7 @@ kept_so before after held new front at taken dirty settings waited faulted live 
 
 -- a part that is empty is nothing
 pub gave_none : (before after : Buffer) (size : ℕ) (part : List ℕ) → Gave before size part after → part ≡ [] → GaveNothing before false false after
-gave_none before after size part gave none = record { reads = gave.reads; place = omega (arith, gave.place, ap length none) }
+gave_none before after size part gave none = record { reads = gave.reads; brings = gave.brings; place = omega (arith, gave.place, ap length none) }
 
 -- nothing is left behind the place of a buffer that gave nothing
 pub at_end : (before after : Buffer) (size : ℕ) (part : List ℕ) → Gave before size part after → part ≡ [] → IsAtEnd after
@@ -59,7 +59,7 @@ failed_so before after held new size front at taken dirty settings fault.NoMemor
 failed_so before after held new size front at taken dirty settings other live nothing room is = absurd nothing
 
 brings_nothing : (old new : TextView) (waited faulted : Bool) → HoldsAsBefore old new → GaveNothing old.buffer waited faulted new.buffer → BringsNothing old waited faulted new
-brings_nothing old new waited faulted held nothing = record { held = held; reads = nothing.reads; place = nothing.place }
+brings_nothing old new waited faulted held nothing = record { held = held; reads = nothing.reads; brings = nothing.brings; place = nothing.place }
 
 fails_at : (old new : TextView) (size : ℕ) (why : IoFault) → HoldsAsBefore old new → ReadOutcome old.buffer size (Err why) new.buffer → FetchOutcome old (Err why) new
 fails_at old new size fault.RawFault held nothing = brings_nothing old new false true held nothing
@@ -94,6 +94,7 @@ more_so now old new size mid part piece room small is gave some mid_is same put 
       few = omega (arith, gave.fits, small, ap (λ (view : TextView). view.settings.chunk_size) is);
       held = put_so ∙ ap (λ (own : ℕ). record old.held { bytes = old.held.bytes ++ part; room = own }) (sym (ap (λ (own : HeldView). own.room) put));
       reads = gave.reads;
+      brings = gave.brings;
       place = gave.place;
     } in
     subst (λ (view : TextView). FetchOutcome view (Ok chunk.More) new) is brought

@@ -8,7 +8,7 @@ use Rattle.py_flat.specs.declared.life.Life.{Life}
 use Rattle.py_flat.specs.declared.life.Life.TheVariants as life
 use Rattle.py_flat.specs.Bytes.{left_at, lay}
 use Rattle.py_flat.specs.Calls.{FileCall, FileReply, Bytes, NotReady, Refused, Read1}
-use Rattle.py_flat.specs.FlatFile.{FlatFile, Buffering, Unbuffered, Buffered, InMemory}
+use Rattle.py_flat.specs.FlatFile.{FlatFile, Abilities, Buffering, Unbuffered, Buffered, InMemory}
 use Rattle.py_flat.specs.Owed.{Owed}
 use Rattle.py_flat.specs.Refusals.{refusal, is_close, is_unbuffered}
 use Rattle.py_flat.specs.AllowedStep.{settled, waited_for, raw_faulted, out_of_memory}
@@ -20,6 +20,7 @@ use Rattle.py_stream.specs.Kinds.{says_fault, says_given, asks_nothing, outlasts
 use Rattle.py_stream.specs.Writing.{OwesUpTo, PassesFront}
 use Rattle.py_stream.specs.Answers.{PlaceStarves}
 use Rattle.py_stream.specs.Buffer.{Buffer, WhereShown, flat_of, size_shown, stream_shown, refused_here, BufferIsCounted, BufferLays, GivesAsked, AnswersAsBuffer}
+use Rattle.py_read_text.specs.Ahead.{ReadsOn}
 use Rattle.py_read_text.specs.Reading.{Calls, ReadOutcome}
 use Rattle.py_read_text.proofs.Owing.{front_passes, passes_then}
 use Rattle.py_raw.proofs.Telling.{tells_still}
@@ -165,6 +166,12 @@ calls_so before after call reply waited faulted answers opens ends owes lays goe
 passed_first : (before after : Buffer) (size : ℕ) (reply : FileReply) → 0 < size → AnswersAsBuffer before (Read1 (Some size)) reply after → IsTrue (says_given reply) → after.owed.bytes ≡ []
 passed_first before after size reply some answers gives = answers.passes_first (shown_size before.buffering) refl (asks_one size some) gives tt
 
+-- one reading
+on_reading : (before after : Buffer) (size : Option ℕ) (reply : FileReply) → AnswersAsBuffer before (Read1 size) reply after → ReadsOn before after
+on_reading before after size reply answers can none =
+    let came = answers.brings refl can none in
+    record { forth = came.forth; brought = λ tells. (came.reads tells).brought }
+
 reads_so : (before after : Buffer) (size : ℕ) (reply : FileReply) (waited faulted : Bool) → AnswersAsBuffer before (Read1 (Some size)) reply after → Goes before reply waited faulted after → Calls before waited faulted after
 reads_so before after size reply waited faulted answers goes = calls_so before after (Read1 (Some size)) reply waited faulted answers refl refl answers.owes answers.lays goes
 
@@ -191,6 +198,7 @@ reads_live before after size (Ok (Some part)) is some answers =
     let gave : WhereShown before (GaveFlat (flat_of before) part.items (flat_of after)) = λ told. gave_told (flat_of before) size part.items after.short false (flat_of after) some accepted.1 (answers.told (rw is.kept refl) told) in
     record {
       reads = reads_so before after size (Bytes part.items) false false answers (record { first = inr (passed_first before after size (Bytes part.items) some answers refl); short = answers.shorts; fails = refl; life_is = answers.moves.life_is; bytes = λ told. (gave told).bytes });
+      brings = on_reading before after (Some size) (Bytes part.items) answers;
       fits = fits_size before.buffering size part.items answers.moves.within;
       place = answers.moves.place;
       told = λ told. record { front = (gave told).front; end = (gave told).end };
@@ -200,18 +208,21 @@ reads_live before after size (Ok None) is some answers =
     record {
       nothing = record {
         reads = reads_so before after size NotReady true false answers (record { first = inl answers.moves.place; short = short; fails = refl; life_is = answers.moves.life_is; bytes = λ told. nothing_told (flat_of before) size NotReady after.short false (flat_of after) unready_bytes (answers.told (rw is.kept refl) told) });
+        brings = on_reading before after (Some size) NotReady answers;
         place = answers.moves.place;
       };
       empty = answers.hides short refl;
     }
 reads_live before after size (Err fault.RawFault) is some answers = record {
   reads = reads_so before after size (Refused fault.RawFault) false true answers (record { first = inl answers.moves.place; short = answers.shorts; fails = refl; life_is = answers.moves.life_is; bytes = λ told. nothing_told (flat_of before) size (Refused fault.RawFault) after.short true (flat_of after) (never_bytes fault.RawFault) (answers.told (rw is.kept refl) told) });
+  brings = on_reading before after (Some size) (Refused fault.RawFault) answers;
   place = answers.moves.place;
 }
 reads_live before after size (Err fault.NoMemory) is some answers =
     let place : after.place ≡ before.place = subst (λ (current : Life). PlaceStarves current None before.place after.place) (answers.moves.life_is ∙ is.live) answers.moves.place in
     record {
       reads = reads_so before after size (Refused fault.NoMemory) false false answers (record { first = inl place; short = answers.shorts; fails = refl; life_is = answers.moves.life_is; bytes = λ told. nothing_told (flat_of before) size (Refused fault.NoMemory) after.short false (flat_of after) (never_bytes fault.NoMemory) (answers.told (rw is.kept refl) told) });
+      brings = on_reading before after (Some size) (Refused fault.NoMemory) answers;
       place = place;
     }
 reads_live before after size (Err (fault.WouldBlock taken)) is some answers = absurd (writes_no_wait before.can.writable (answers.answer (accepts_read before (Some size) is.live is.reads is.buffered is.kept).0))
@@ -261,3 +272,16 @@ calls_on before mid after waited faulted first second = record {
   none = λ none. second.none (first.none none);
   first = grind arith;
 }
+
+-- A buffer that is only read from.
+
+-- it wasn't called
+pub on_itself : (buffer : Buffer) → ReadsOn buffer buffer
+on_itself buffer can none = record { forth = omega arith; brought = λ tells. omega arith }
+
+-- one reading behind another
+pub on_then : (before mid after : Buffer) → Calls before false false mid → ReadsOn before mid → ReadsOn mid after → ReadsOn before after
+on_then before mid after calls first second can none =
+    let one = first can none in
+    let two = second (ap (λ (able : Abilities). able.writable) calls.keeps.can ∙ can) (calls.none none) in
+    record { forth = omega (arith, one.forth, two.forth); brought = λ tells. omega (arith, one.forth, two.forth, one.brought tells, two.brought (calls.keeps.raw.tells_transfers ∙ tells)) }

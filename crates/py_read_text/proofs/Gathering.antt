@@ -20,8 +20,9 @@ use Rattle.py_read_text.specs.declared.looking.Gathered.{Gathered}
 use Rattle.py_read_text.specs.declared.looking.Gathered.TheVariants as gathered
 use Rattle.py_read_text.specs.declared.read_text.Chunk.TheVariants as chunk
 use Rattle.py_read_text.specs.Knowing.{TextView, IsText}
+use Rattle.py_read_text.specs.Ahead.{ReadsOn}
 use Rattle.py_read_text.specs.Reading.{Coming, Follows, Calls, HeldAt, IsTold, IsReady, IsAtEnd, GatheredAt, gathers_wait, GatherOutcome, StopOutcome, FetchOutcome, asks_none, KeepsPlace, Gathers}
-use Rattle.py_read_text.proofs.Fetching.{calls_on}
+use Rattle.py_read_text.proofs.Fetching.{calls_on, on_itself, on_then}
 use Rattle.py_read_text.proofs.Ahead.{needs_chunk}
 use Rattle.py_read_text.proofs.Owing.{passes_none}
 use Rattle.py_read_text.proofs.Fronts.{lays_none}
@@ -52,7 +53,7 @@ calls_itself buffer far = record {
 }
 
 pub begins : (text : TextView) (asked : Wanted) → text.buffer.place ≤ greatest_place → Gathers text asked text
-begins text asked far = record { place = record { front = refl; at = refl; taken = refl; dirty = refl; settings = refl }; reads = calls_itself text.buffer far; forth = omega arith; nothing = λ none. refl; needs = λ told. inl (omega arith) }
+begins text asked far = record { place = record { front = refl; at = refl; taken = refl; dirty = refl; settings = refl }; reads = calls_itself text.buffer far; brings = on_itself text.buffer; forth = omega arith; nothing = λ none. refl; needs = λ told. inl (omega arith) }
 
 -- what is in hand tells by itself what a text comes to
 pub gathered_look : (text : TextView) (asked : Wanted) (stop : Gathered) → HeldAt (Coming false) asked text.held stop → IsTold stop → GatheredAt text asked stop
@@ -106,6 +107,12 @@ fails_there mid new fault.RawFault outcome = outcome.place
 fails_there mid new fault.NoMemory outcome = outcome.place
 fails_there mid new other outcome = absurd outcome
 
+-- and was only read from
+pub fails_on : (mid new : TextView) (why : IoFault) → FetchOutcome mid (Err why) new → ReadsOn mid.buffer new.buffer
+fails_on mid new fault.RawFault outcome = outcome.brings
+fails_on mid new fault.NoMemory outcome = outcome.brings
+fails_on mid new other outcome = absurd outcome
+
 held_room : (asked : Wanted) (held : HeldView) (room : ℕ) → HeldAt (Coming false) asked held gathered.Waits → HeldAt (Coming false) asked (record held { room = room }) gathered.Waits
 held_room asked held room at = (at.0, record { items = at.1.items; refusal = at.1.refusal; none = at.1.none })
 
@@ -144,6 +151,7 @@ gathers_at old before mid new asked live can so_far same place is short drained 
     record {
       place = places_on old before new so_far.place (places_on before mid new place kept);
       reads = calls_on old.buffer mid.buffer new.buffer false false reads came.reads;
+      brings = on_then old.buffer mid.buffer new.buffer reads (subst (ReadsOn old.buffer) (sym same) so_far.brings) came.brings;
       forth = omega (arith, forth, came.place);
       nothing = λ none. asks_some asked mid.held.newline mid.held.known (new.buffer ≡ old.buffer) short none;
       needs = needs_chunk old mid new asked live can (places_on old before mid so_far.place place) reads forth is short drained came;

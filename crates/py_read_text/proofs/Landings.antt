@@ -272,6 +272,7 @@ seeks_so old new sought whence waited reply live accepted was is parts =
       stands = calls.stands;
       told = parts.told;
       needs = λ gives. absurd (cc);
+      brings = λ gives. absurd (cc);
       hides = λ waits gives. absurd (cc);
       stops = λ waits. record { full = λ some. absurd (some refl); some = λ reads own. absurd (cc) };
       passes = parts.passes;

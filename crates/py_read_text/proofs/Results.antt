@@ -22,7 +22,7 @@ use Rattle.py_read_text.specs.declared.looking.Gathered.{Gathered}
 use Rattle.py_read_text.specs.declared.looking.Gathered.TheVariants as gathered
 use Rattle.py_read_text.specs.declared.read_text.Answer.{Answer}
 use Rattle.py_read_text.specs.Waiting.{ShowsAll}
-use Rattle.py_read_text.specs.Ahead.{AsksAsNeeded}
+use Rattle.py_read_text.specs.Ahead.{AsksAsNeeded, ReadsOn}
 use Rattle.py_read_text.specs.TextState.{TextState}
 use Rattle.py_read_text.specs.Owing.{IsJoined, given_by, WriteMovesBy, Starves, Closes}
 use Rattle.py_read_text.specs.Answers.{refused_here, calls_nothing, may_read, IsReplyTo, IsComplete, IsShort, PlaceMoves, ReadsOneLine, WriteMoves, LifeMoves, settings_after, closes_again, WantsMemory, ClosesWithRaw, TextPasses, MovesByOwn, TextKeeps, TextHolds, TextBlames, TextTells, TextSeeks, Answers}
@@ -132,6 +132,7 @@ pub record Parts (old : TextView) (asked : Wanted) (waited short : Bool) (reply 
   pub blames : TextBlames (call_of asked) reply (place_of old) new.buffer.place
   pub joined : IsJoined (over_of new)
   pub needs : GathersAsNeeded old asked new
+  pub brings : ReadsOn old.buffer new.buffer
   pub told : WhereShown old.buffer (TextFileStep (shown_file old) (call_of asked) reply short (says_fault reply) (shown_file new))
   pub hides : IsTrue short → HoldsNothing new.buffer × WhereShown old.buffer (ShowsAll (shown_file new) new.buffer.place)
 
@@ -195,6 +196,7 @@ answers old new asked waited short reply live can parts =
       stands = parts.reads.stands;
       told = parts.told;
       needs = λ gives. parts.needs;
+      brings = λ gives. parts.brings;
       hides = λ is gives own. let hidden = parts.hides is in record { empty = hidden.0; shows = hidden.1 };
       stops = λ is. record { full = λ some. absurd (some refl); some = λ none own. let never = sym (reads_some asked) ∙ none in absurd (cc) };
       passes = passes_none (state_of old false) asked reply (state_of new short);
@@ -242,8 +244,8 @@ pub starves_step : (file after : TextFile) (asked : Wanted) → file.life ≡ li
 starves_step file after (Characters size) live can same = out_of_memory refl (inl (rw live (rw can refl), same))
 starves_step file after (Line limit) live can same = out_of_memory refl (inl (rw live (rw can refl), same))
 
-pub stopped : (old new : TextView) (asked : Wanted) (why : IoFault) → old.buffer.life ≡ life.Live → old.buffer.can.readable ≡ true → IsJoined (over_of old) → IsJoined (over_of new) → KeepsPlace old new → (asks_none asked ≡ true → new.buffer ≡ old.buffer) → GathersAsNeeded old asked new → GatherOutcome old asked (Err why) new → Answers (state_of old false) (call_of asked) (Refused why) (state_of new false)
-stopped old new asked fault.RawFault live can was joined place nothing needs outcome =
+pub stopped : (old new : TextView) (asked : Wanted) (why : IoFault) → old.buffer.life ≡ life.Live → old.buffer.can.readable ≡ true → IsJoined (over_of old) → IsJoined (over_of new) → KeepsPlace old new → (asks_none asked ≡ true → new.buffer ≡ old.buffer) → GathersAsNeeded old asked new → ReadsOn old.buffer new.buffer → GatherOutcome old asked (Err why) new → Answers (state_of old false) (call_of asked) (Refused why) (state_of new false)
+stopped old new asked fault.RawFault live can was joined place nothing needs brings outcome =
     let reads = outcome.0 in
     answers old new asked false false (Refused fault.RawFault) live can (record {
       was = was;
@@ -259,10 +261,11 @@ stopped old new asked fault.RawFault live can was joined place nothing needs out
       blames = fault_blames asked (place_of old) new.buffer.place;
       joined = joined;
       needs = needs;
+      brings = brings;
       told = λ told. faults_step (shown_file old) (shown_file new) asked live can reads.life_is (reads.bytes told) reads.keeps.can place.settings;
       hides = λ is. absurd (cc);
     })
-stopped old new asked fault.NoMemory live can was joined place nothing needs outcome =
+stopped old new asked fault.NoMemory live can was joined place nothing needs brings outcome =
     let reads = outcome.0 in
     answers old new asked false false (Refused fault.NoMemory) live can (record {
       was = was;
@@ -278,10 +281,11 @@ stopped old new asked fault.NoMemory live can was joined place nothing needs out
       blames = starved_blames asked (place_of old) new.buffer.place;
       joined = joined;
       needs = needs;
+      brings = brings;
       told = λ told. starves_step (shown_file old) (shown_file new) asked live can (same_file old new (reads.bytes told) reads.keeps.can reads.life_is place);
       hides = λ is. absurd (cc);
     })
-stopped old new asked other live can was joined place nothing needs outcome = absurd outcome.1
+stopped old new asked other live can was joined place nothing needs brings outcome = absurd outcome.1
 
 -- A call that was answered.
 
@@ -299,8 +303,8 @@ quiet_so (gathered.Before front) result lacks whole has = refl
 quiet_so (gathered.Refuses start end) result lacks whole has = refl
 quiet_so gathered.Ends result lacks whole has = refl
 
-pub finished : (old mid new : TextView) (asked : Wanted) (stop : Gathered) (result : Result Answer IoFault) → old.buffer.life ≡ life.Live → old.buffer.can.readable ≡ true → IsJoined (over_of old) → IsJoined (over_of new) → KeepsPlace old mid → (asks_none asked ≡ true → mid.buffer ≡ old.buffer) → GathersAsNeeded old asked mid → GatherOutcome old asked (Ok stop) mid → OnlyWhereWaits stop (waited_in result) → WaitsOrLacks stop result → Finishes mid asked result new → Answers (state_of old false) (call_of asked) (reply_of result) (state_of new (waited_in result))
-finished old mid new asked stop result live can was joined place nothing needs outcome only lacks done =
+pub finished : (old mid new : TextView) (asked : Wanted) (stop : Gathered) (result : Result Answer IoFault) → old.buffer.life ≡ life.Live → old.buffer.can.readable ≡ true → IsJoined (over_of old) → IsJoined (over_of new) → KeepsPlace old mid → (asks_none asked ≡ true → mid.buffer ≡ old.buffer) → GathersAsNeeded old asked mid → ReadsOn old.buffer mid.buffer → GatherOutcome old asked (Ok stop) mid → OnlyWhereWaits stop (waited_in result) → WaitsOrLacks stop result → Finishes mid asked result new → Answers (state_of old false) (call_of asked) (reply_of result) (state_of new (waited_in result))
+finished old mid new asked stop result live can was joined place nothing needs brings outcome only lacks done =
     let reads : Calls old.buffer (gathers_wait (Ok stop)) false new.buffer = subst (Calls old.buffer (gathers_wait (Ok stop)) false) (sym done.buffer) outcome.0 in
     let same : WhereShown old.buffer (shown_file mid ≡ shown_file old) = λ told. same_file old mid (outcome.0.bytes told) outcome.0.keeps.can outcome.0.life_is place in
     let tells_mid = tells_still old.buffer.raw mid.buffer.raw outcome.0.keeps.raw in
@@ -320,6 +324,7 @@ finished old mid new asked stop result live can was joined place nothing needs o
           (subst (λ (buffer : Buffer). TextBlames (call_of asked) (reply_of result) (place_of mid) buffer.place) (sym done.buffer) done.blames);
       joined = joined;
       needs = λ told. subst (λ (buffer : Buffer). AsksAsNeeded (shown_file old) (call_of asked) old.settings.chunk_size (max old.buffer.place old.at) buffer.place) (sym done.buffer) (needs told);
+      brings = subst (ReadsOn old.buffer) (sym done.buffer) brings;
       told = λ told. subst (λ (faulted : Bool). TextFileStep (shown_file old) (call_of asked) (reply_of result) (waited_in result) faulted (shown_file new)) (sym done.sound)
           (subst (λ (file : TextFile). TextFileStep file (call_of asked) (reply_of result) (waited_in result) false (shown_file new)) (same told) (done.told (tells_mid ∙ told)));
       hides = λ is. let hidden = done.hides is in (hidden.0, λ told. hidden.1 (tells_mid ∙ told));

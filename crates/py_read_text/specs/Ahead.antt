@@ -1,5 +1,6 @@
--- How far a text reads ahead of its answers: no further than the last chunk that it had to ask for.
-use Rattle.std.specs.Prelude.{◌≡◌, ℕ, ◌+◌, ◌-◌, ◌<◌, ◌≤◌, ◌⊎◌, max, List, [], ◌∷◌, ◌++◌, length, take, Some, None}
+-- How far a text reads ahead of its answers: no further than the last chunk that it had to ask for, and no byte twice.
+use Rattle.std.specs.Prelude.{◌≡◌, ℕ, ◌+◌, ◌-◌, ◌<◌, ◌≤◌, ◌⊎◌, max, false, List, [], ◌∷◌, ◌++◌, length, take, Some, None}
+use Rattle.py_flat.specs.Causes.{counted}
 use Rattle.py_flat.specs.Lines.{lf, first_line}
 use Rattle.py_plain.specs.declared.newlines.Newlines.{Newlines}
 use Rattle.py_plain.specs.Items.{refusal_of}
@@ -7,7 +8,8 @@ use Rattle.py_plain.specs.NewlineRule.{line_end}
 use Rattle.py_plain_text.specs.TextFile.{TextFile}
 use Rattle.py_plain_text.specs.TextCalls.{TextFileCall, Read, ReadLine}
 use Rattle.py_plain_text.specs.Rest.{text_rest}
-use Rattle.py_stream.specs.Buffer.{WhereShown}
+use Rattle.py_raw.specs.RawStream.{WhereTransfers}
+use Rattle.py_stream.specs.Buffer.{Buffer, WhereShown}
 use Rattle.py_read_text.specs.TextState.{TextState, file_of}
 use Rattle.py_read_text.specs.Waiting.{taken_walk, sure_at}
 
@@ -47,3 +49,12 @@ starts_at state = max state.text.buffer.place state.text.place.at
 -- told, how far ahead a reading brought the buffer
 abbrev pub ReadsNoFurther : TextState → TextFileCall → TextState → Type 0
 ReadsNoFurther before call after = WhereShown before.text.buffer (AsksAsNeeded (file_of before) call before.text.settings.chunk_size (starts_at before) after.text.buffer.place)
+
+-- a buffer that owes nothing and doesn't write was only read from: its raw moved forth, as the buffer counts, by just as many bytes as that
+-- raw's reads brought, where it tells its transfers. So nothing was read that the buffer then moved back from
+pub record OnlyRead (before after : Buffer) : Type 0 where
+  pub forth : before.raw_place ≤ after.raw_place
+  pub brought : WhereTransfers before.raw (counted after.raw.reads.brought 0 ≡ counted before.raw.reads.brought (after.raw_place - before.raw_place))
+
+abbrev pub ReadsOn : Buffer → Buffer → Type 0
+ReadsOn before after = before.can.writable ≡ false → before.owed.bytes ≡ [] → OnlyRead before after

@@ -32,7 +32,7 @@ use Rattle.py_stream.specs.Answers.{HasCauses}
 use Rattle.py_stream.specs.Buffer.{Buffer, WhereShown, KeepsBuffer, IsClosedWithRaw, parts_when_closed, AnswersAsBuffer, StandsAsCounted}
 use Rattle.py_read_text.specs.TextState.{TextState, file_of}
 use Rattle.py_read_text.specs.Waiting.{ShowsAll}
-use Rattle.py_read_text.specs.Ahead.{ReadsNoFurther}
+use Rattle.py_read_text.specs.Ahead.{ReadsNoFurther, ReadsOn}
 use Rattle.py_read_text.specs.Owing.{all_owed, behind_own, begins_at, IsJoined, given_by, OwesOn, LaysOwed, Starves, has_line_end, flushes_behind, StopsOwing, KeepsOpen, StaysWhileOwing, may_close, Closes}
 
 -- what the answer of a reading says, in the model's words
@@ -452,6 +452,8 @@ pub record Answers (before : TextState) (call : TextFileCall) (reply : FileReply
   pub told : WhereShown before.text.buffer (TextFileStep (file_of before) call reply after.short (says_fault reply) (file_of after))
   -- a reading asks for no chunk that it needn't
   pub needs : gives_text call ≡ true → ReadsNoFurther before call after
+  -- and over a buffer that doesn't write it asks for no byte twice, whether the raw tells its bytes or not
+  pub brings : gives_text call ≡ true → ReadsOn before.text.buffer after.text.buffer
   -- a wait hides nothing, where the text itself owes nothing
   pub hides : IsTrue after.short → gives_text call ≡ true → after.text.owed ≡ [] → HidesNothing before after
   -- what a wait leaves that ended a call which hands bytes on
@@ -462,5 +464,5 @@ pub record Answers (before : TextState) (call : TextFileCall) (reply : FileReply
   pub by_own : MovesByOwn call before.text after.text
   -- how little an answered write leaves with the text
   pub kept : TextKeeps call reply after
-  -- which answered writes hand on nothing, and which don't flush the buffer
+  -- which answered writes hand on nothing, and which by one write of the buffer
   pub holds : TextHolds before.text call reply after.text

@@ -38,7 +38,7 @@ use Rattle.py_stream.specs.Kinds.{says_fault, says_no_memory}
 use Rattle.py_read_text.specs.declared.read_text.Answer.{Answer}
 use Rattle.py_read_text.specs.declared.read_text.Answer.TheVariants as answer
 use Rattle.py_read_text.specs.Waiting.{ShowsAll}
-use Rattle.py_read_text.specs.Ahead.{AsksAsNeeded}
+use Rattle.py_read_text.specs.Ahead.{AsksAsNeeded, ReadsOn}
 use Rattle.py_read_text.specs.Owing.{PassesOwed, LaysFront}
 use Rattle.py_read_text.specs.Answers.{SparesBytes, StandsWhileLive, IsReplyTo, IsShort, PlaceMoves, ReadsOneLine, TextBlames}
 
@@ -114,6 +114,7 @@ pub record GaveTold (before : Buffer) (part : List ℕ) : Type 0 where
 -- some bytes came, at most so many, none only at the end
 pub record Gave (before : Buffer) (size : ℕ) (part : List ℕ) (after : Buffer) : Type 0 where
   pub reads : Calls before false false after
+  pub brings : ReadsOn before after
   pub fits : length part ≤ size
   pub place : after.place ≡ before.place + length part
   pub told : WhereShown before (GaveTold before part)
@@ -121,6 +122,7 @@ pub record Gave (before : Buffer) (size : ℕ) (part : List ℕ) (after : Buffer
 -- nothing came
 pub record GaveNothing (before : Buffer) (waited faulted : Bool) (after : Buffer) : Type 0 where
   pub reads : Calls before waited faulted after
+  pub brings : ReadsOn before after
   pub place : after.place ≡ before.place
 
 -- the raw would have blocked before anything came, and the buffer holds nothing back
@@ -204,12 +206,14 @@ pub record Brings (old new : TextView) : Type 0 where
   pub few : length part ≤ old.settings.chunk_size
   pub held : new.held ≡ record old.held { bytes = old.held.bytes ++ part; room = new.held.room }
   pub reads : Calls old.buffer false false new.buffer
+  pub brings : ReadsOn old.buffer new.buffer
   pub place : new.buffer.place ≡ old.buffer.place + length part
 
 -- no byte came: `waited` and `faulted` say whether the raw would have blocked, or failed
 pub record BringsNothing (old : TextView) (waited faulted : Bool) (new : TextView) : Type 0 where
   pub held : HoldsAsBefore old new
   pub reads : Calls old.buffer waited faulted new.buffer
+  pub brings : ReadsOn old.buffer new.buffer
   pub place : new.buffer.place ≡ old.buffer.place
 
 -- nothing comes behind what was taken
@@ -279,6 +283,7 @@ GathersAsNeeded old asked new = WhereShown old.buffer (AsksAsNeeded (shown_file 
 pub record Gathers (old : TextView) (asked : Wanted) (new : TextView) : Type 0 where
   pub place : KeepsPlace old new
   pub reads : Calls old.buffer false false new.buffer
+  pub brings : ReadsOn old.buffer new.buffer
   pub forth : old.buffer.place ≤ new.buffer.place
   pub nothing : asks_none asked ≡ true → new.buffer ≡ old.buffer
   pub needs : GathersAsNeeded old asked new

@@ -16,6 +16,7 @@ ghost use Rattle.py_plain_text.specs.TextStep.{asks_any};
 ghost use Rattle.py_stream.specs.Writing.{OwesUpTo, Takes};
 ghost use Rattle.py_stream.specs.Buffer.{WhereShown, flat_of, stream_shown, AnswersAsBuffer, EndsAt};
 ghost use Rattle.py_held_text.specs.Finding.{IsFrontOf, answer_of};
+ghost use Rattle.py_read_text.specs.Ahead.{ReadsOn};
 ghost use Rattle.py_read_text.specs.Reading.{size_of, asks_all, KeepsPlace, FetchOutcome, GatherOutcome, GathersAsNeeded, asks_none, GiveOutcome, GiveAllOutcome, GatheredAt, Finishes, OnlyWhereWaits, WaitsOrLacks, reply_of, call_of, waited_in};
 ghost use Rattle.py_plain_text.specs.Telling.{told};
 ghost use Rattle.py_telling.specs.ToldView.{told_shown, IsTold};
@@ -588,6 +589,7 @@ impl<B: BufferedStream> ReadText<B> {
         ensures outcome { GatherOutcome self.old wanted result self.new }
         ensures nothing { asks_none wanted ≡ true → self.new.buffer ≡ self.old.buffer }
         ensures needs { GathersAsNeeded self.old wanted self.new }
+        ensures brings { ReadsOn self.old.buffer self.new.buffer }
     {
         // What holds of every text is known from here on.
         let _ = &self.held;

@@ -15,8 +15,9 @@ use Rattle.py_raw.proofs.Telling.{tells_still, tells_its_bytes}
 use Rattle.py_stream.specs.Stream.{Stream, buffering_of, nothing_owed}
 use Rattle.py_stream.specs.Kinds.{is_reading, is_writing, is_single, makes_one, moves_raw, says_no_memory}
 use Rattle.py_stream.specs.Writing.{OwesBehind, LaysTaken, OwesSome, PassesFront, PassedOn, OwesBoth, PassesOn, LaysInOrder, BlocksFull, TookOwn, Writes}
-use Rattle.py_stream.specs.Answers.{Answers, Leaves, ClosedWith, parts_at_close, LifeMoves, GivesWithin, AtMostOne, ReadsOnce, FlushesFirst, PassesFirst, SparesBytes, SeeksTo, SeeksFromEnd, UnlessStopped, EndMoves, SeeksByEnd, closes_again, refused_by}
+use Rattle.py_stream.specs.Answers.{Answers, Leaves, ClosedWith, parts_at_close, LifeMoves, GivesWithin, AtMostOne, ReadsOnce, FlushesFirst, PassesFirst, CameByReads, SparesBytes, SeeksTo, SeeksFromEnd, UnlessStopped, EndMoves, SeeksByEnd, closes_again, refused_by}
 use Rattle.py_stream.specs.Buffer.{Buffer, buffer_of, taken_by, size_shown, LeavesBuffer, closes_twice, stream_shown, GivesAsked, GoesFromEnd, BufferSeeksFromEnd, BufferSeeksByEnd, BufferOwes, BufferPasses, BufferLays, BufferTakes, OwesAsItCan, is_made, AnswersAsBuffer}
+use Rattle.py_stream.proofs.Begun.{came_seen}
 use Rattle.py_stream.proofs.Refused.{parts_not}
 use Rattle.py_stream.proofs.LeftOwed.{none_or_some}
 
@@ -241,4 +242,5 @@ answers_as_buffer before was call reply after taken answers counts made buffered
     let once : IsTrue (is_single call) → ReadsOnce (shown before was) (shown after taken) = λ one. answers.once (one_so before.buffer call buffered one) in
     let first : PassesFirst (shown before was) call reply (shown after taken) = λ some single asks given first. answers.passes_first buffered single asks given (flushes_so before call made single) in
     let spares : before.can.writable ≡ false → before.owed ≡ nothing_owed before.place → SparesBytes (shown before was) call (shown after taken) = λ can none. spares_so was taken before after call (answers.spares can none) in
+    let brings : IsTrue (is_reading call) → before.can.writable ≡ false → before.owed.bytes ≡ [] → CameByReads 1 (shown before was) (shown after taken) = λ reads can none. came_seen before (shown before was) after (shown after taken) 1 refl refl refl refl (answers.brings reads (record { none = none; stands = λ writes. absurd (cc (can, writes)) })) in
     grind (arith, size_is, tells_still, left_so, closed_so, gives_asked, by_end_so)

@@ -18,7 +18,7 @@ use Rattle.py_raw.specs.RawStream.{Raw, tells, Keeps, StaysOpen, WherePlace, Kee
 use Rattle.py_stream.specs.Stream.{Stream, buffering_of, nothing_owed, nothing_held}
 use Rattle.py_stream.specs.Kinds.{is_reading, is_writing, is_single, has_room, outlasts, says_fault, says_no_memory}
 use Rattle.py_stream.specs.Writing.{OwesUpTo, OwesWithin, OwesBoth, Takes, PassesFront, PassedOn, LaysFrontOf, BlocksFull, TookOwn}
-use Rattle.py_stream.specs.Answers.{ClosedWith, parts_at_close, IsAnswerTo, IsReplyTo, IsShort, LifeMoves, PlaceMoves, AtMostOne, ReadsOnce, PassesFirst, SparesBytes, Within, UnlessStopped}
+use Rattle.py_stream.specs.Answers.{ClosedWith, parts_at_close, IsAnswerTo, IsReplyTo, IsShort, LifeMoves, PlaceMoves, AtMostOne, ReadsOnce, PassesFirst, CameByReads, SparesBytes, Within, UnlessStopped}
 
 -- What a buffered stream shows: what its raw shows; where the raw stands, as the stream counts; its own place; what it can do; its life;
 -- how large its buffer is, of 0 bytes in memory; whether a wait cut the last answer short; what it owes its raw; whether bytes of it are
@@ -305,6 +305,8 @@ pub record AnswersAsBuffer (before : Buffer) (call : FileCall) (reply : FileRepl
   pub single : IsTrue (is_single call) → before.owed.bytes ≡ [] → AtMostOne (stream_shown before) (stream_shown after)
   -- also where it passes on first what was owed it reads once at most
   pub once : IsTrue (is_single call) → ReadsOnce (stream_shown before) (stream_shown after)
+  -- a reading of a stream that doesn't write, and owes nothing, moves the raw by just as many bytes as its reads brought
+  pub brings : IsTrue (is_reading call) → before.can.writable ≡ false → before.owed.bytes ≡ [] → CameByReads 1 (stream_shown before) (stream_shown after)
   -- one that gives bytes, or the end, passed on first what was owed
   pub passes_first : PassesFirst (stream_shown before) call reply (stream_shown after)
   -- running out of memory fails a write only once the raw took some of its own bytes

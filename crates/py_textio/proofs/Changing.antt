@@ -183,6 +183,7 @@ set_answers view changes live accepted joined = record {
   stands = λ stood. stood;
   told = λ told. set_step view changes live accepted;
   needs = λ gives. absurd (cc);
+  brings = λ gives. absurd (cc);
   hides = λ short. absurd (cc);
   passes = tt;
   by_own = tt;

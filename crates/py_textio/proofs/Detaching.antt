@@ -122,6 +122,7 @@ refuses_so old new why other answers =
       stands = answers.stands;
       told = λ told. step_refused (file_of old) why new.short _ (file_of new) same (answers.told told);
       needs = λ gives. absurd (cc);
+      brings = λ gives. absurd (cc);
       hides = λ is gives. absurd (cc);
       passes = tt;
       by_own = answers.by_own;
@@ -199,6 +200,7 @@ detached_done old new live answers =
       told = λ told. subst (λ (short : Bool). TextFileStep (file_of old) Detach (Unwritten [] (place_handed old.text [])) short false (file_of (detached_as new))) (sym whole)
           (detach_step (file_of old) (place_handed old.text []) (file_of (detached_as new)) live (same ∙ accepts) (place_so old.text) (ap (λ (file : TextFile). in_life file life.Detached) (flushed_file (file_of old) new.short (file_of new) live whole (answers.told told))));
       needs = λ gives. absurd (cc);
+      brings = λ gives. absurd (cc);
       hides = λ is gives. absurd (cc);
       passes = λ lives. let passed = answers.passes in record { own = passed.own; none = passed.none; holds = passed.holds };
       by_own = answers.by_own;
@@ -276,6 +278,7 @@ hands_failed old failed joined =
             leaves = refl;
           })));
       needs = λ gives. absurd (cc);
+      brings = λ gives. absurd (cc);
       hides = λ short. absurd (cc);
       passes = λ lives. let never : life.Failed ≡ life.Live = sym failed ∙ lives in absurd (cc);
       by_own = refl;

@@ -270,6 +270,7 @@ sought_behind_end old mid end sought reply new live joined accepted says answers
       stands = λ stood. answers.stands says.says.stands;
       told = λ told. subst (λ (file : TextFile). TextFileStep file (SeekText sought (pos 2)) reply new.short (says_fault reply) (file_of new)) (file_over old mid asked says.life_is told) (answers.told (tells_still old.text.buffer.raw mid.text.buffer.raw asks.raw ∙ told));
       needs = λ gives. absurd (cc);
+      brings = λ gives. absurd (cc);
       hides = λ waits gives. absurd (cc);
       stops = answers.stops;
       passes = passes_seek (state_of old false) (state_of mid false) new sought (pos 2) reply answers.passes;
@@ -339,6 +340,7 @@ end_fails old new sought live lives joined accepted fails =
       stands = λ stood current. let never = sym fails.fails.life_is ∙ current in absurd (cc);
       told = λ told. raw_faulted refl refl (reaches_end (file_now old) sought live accepted, (0, omega arith, record { life_is = fails.life_is; bytes_are = bytes_over old new asked told; can = can_over old new asked; settings = fails.over.keeps.settings }));
       needs = λ gives. absurd (cc);
+      brings = λ gives. absurd (cc);
       hides = λ waits. absurd (cc);
       stops = λ waits. absurd (cc);
       passes = tt;
@@ -388,6 +390,7 @@ end_starves old new sought live joined accepted starves =
       stands = λ stood. subst StandsWhileLive (sym starves.same) stood;
       told = λ told. out_of_memory refl (inl (ap (λ (reaches : Bool). reaches || false) (reaches_end (file_now old) sought live accepted), inl (file_over old new asked starves.life_is told)));
       needs = λ gives. absurd (cc);
+      brings = λ gives. absurd (cc);
       hides = λ waits. absurd (cc);
       stops = λ waits. absurd (cc);
       passes = tt;

@@ -106,6 +106,7 @@ none_answers (Characters size) old was live can none joined = record {
   stands = λ stood. stood;
   told = λ told. none_step (file_now old) (Characters size) live can none;
   needs = λ gives told. inl (omega arith);
+  brings = λ gives can none. record { forth = omega arith; brought = λ told. omega arith };
   hides = λ short. absurd (cc);
   passes = tt;
   by_own = tt;
@@ -142,6 +143,7 @@ none_answers (Line limit) old was live can none joined = record {
   stands = λ stood. stood;
   told = λ told. none_step (file_now old) (Line limit) live can none;
   needs = λ gives told. inl (omega arith);
+  brings = λ gives can none. record { forth = omega arith; brought = λ told. omega arith };
   hides = λ short. absurd (cc);
   passes = tt;
   by_own = tt;

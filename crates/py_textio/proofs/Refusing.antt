@@ -211,6 +211,7 @@ refused text was call why here own once joined =
       stands = λ stood. stood;
       told = λ told. subst (λ (faulted : Bool). TextFileStep (file_now text) call (Refused why) false faulted (file_now text)) (sym quiet) (step_refused (file_now text) call why is);
       needs = λ gives told. inl (omega arith);
+      brings = λ gives can none. record { forth = omega arith; brought = λ told. omega arith };
       hides = λ short. absurd (cc);
       passes = passes_refused (state_of text was) (file_now text) call why (state_of text false) is;
       by_own = stays_put call (over_of text);
@@ -329,6 +330,7 @@ closed_again now text was same is joined =
       stands = λ stood. stood;
       told = λ told. closed_step (file_now text) is;
       needs = λ gives. absurd (cc);
+      brings = λ gives. absurd (cc);
       hides = λ short. absurd (cc);
       passes = λ live. let never : life.Closed ≡ life.Live = sym is ∙ live in absurd (cc);
       by_own = refl;
@@ -407,6 +409,7 @@ chunks_so now text new was size same live some joined is =
       stands = λ stood. stood;
       told = λ told. chunk_step (file_now text) size live some;
       needs = λ gives. absurd (cc);
+      brings = λ gives. absurd (cc);
       hides = λ short. absurd (cc);
       passes = tt;
       by_own = tt;
@@ -485,6 +488,7 @@ over_short now text was call reply after same passes answers = subst (λ (before
   stands = answers.stands;
   told = answers.told;
   needs = answers.needs;
+  brings = answers.brings;
   hides = λ is gives own. let hidden = answers.hides is gives own in record { empty = hidden.empty; shows = hidden.shows };
   stops = answers.stops;
   passes = passes;

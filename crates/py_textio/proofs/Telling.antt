@@ -189,6 +189,7 @@ tell_answers now text was told_here same live can joined tells =
       stands = λ stood. stood;
       told = λ told. tell_step (file_now text) (cookie_shown told_here) live can (tells.told told);
       needs = λ gives. absurd (cc);
+      brings = λ gives. absurd (cc);
       hides = λ short. absurd (cc);
       passes = tt;
       by_own = tt;

@@ -49,6 +49,7 @@ answers_work old call reply new short works = record {
   stands = works.calls.stands;
   told = works.told;
   needs = works.needs;
+  brings = λ gives can. let never = sym works.writes ∙ can in absurd (cc);
   hides = λ is gives none. works.hides is gives none;
   passes = works.passes;
   by_own = works.by_own;

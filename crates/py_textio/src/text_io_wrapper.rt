@@ -124,8 +124,8 @@ impl<B: BufferedStream> TextIOWrapper<B> {
         }
     }
 
-    /// Asks its buffer for at most n bytes at once from here on, and keeps fewer than n of what is written. Where the raw neither waits nor
-    /// fails no answer hangs on it.
+    /// Asks its buffer for at most n bytes at once from here on, and keeps fewer than n of what is written once the next `write` is answered.
+    /// Where the raw neither waits nor fails no answer hangs on it.
     ///
     /// `BadArgument` for 0.
     pub fn set_chunksize(&mut self, size: usize) -> Result<(), IoFault>

@@ -1,10 +1,11 @@
 use Rattle.std.proofs.Common.{sym, ap, ◌∙◌, subst, false}
 use Rattle.std.proofs.lemmas.Result.{err_from_is_err_and}
 use Rattle.py_read_text.specs.Knowing.{TextView}
+use Rattle.py_read_text.specs.Ahead.{ReadsOn}
 use Rattle.py_read_text.specs.Reading.{IsAtEnd, Calls}
-use Rattle.py_read_text.proofs.Fetching.{calls_on}
+use Rattle.py_read_text.proofs.Fetching.{calls_on, on_then}
 use Rattle.py_read_text.proofs.Ahead.{needs_at}
-use Rattle.py_read_text.proofs.Gathering.{looked, fails_there, gathers_more, holds_looked, holds_ended, asks_some, failed, waited, ended}
+use Rattle.py_read_text.proofs.Gathering.{looked, fails_there, fails_on, gathers_more, holds_looked, holds_ended, asks_some, failed, waited, ended}
 use Rattle.py_read_text.proofs.read_text.ReadText.gather.Goals as goal
 
 pub returns-in-Some-clause-outcome : goal.returns-in-Some-clause-outcome
@@ -72,6 +73,34 @@ returns-in-Waits-clause-needs g c =
 
 pub returns-in_err-stop-clause-needs : goal.returns-in_err-stop-clause-needs
 returns-in_err-stop-clause-needs g c = needs_at c.args.self.now c.loop-stop.self c.args.wanted _ (ap (λ (view : TextView). view.buffer.place) c.self-in-loop-stop.view_is) c.loop-stop.invariant.needs
+
+-- the buffer was only read from
+
+pub returns-in-Some-clause-brings : goal.returns-in-Some-clause-brings
+returns-in-Some-clause-brings g c = subst (λ (view : TextView). ReadsOn c.args.self.now.buffer view.buffer) (sym c.self-in-loop-stop.view_is) c.loop-stop.invariant.brings
+
+pub returns-in_err-stop-clause-brings : goal.returns-in_err-stop-clause-brings
+returns-in_err-stop-clause-brings g c = subst (λ (view : TextView). ReadsOn c.args.self.now.buffer view.buffer) (sym c.self-in-loop-stop.view_is) c.loop-stop.invariant.brings
+
+pub returns-in_err-fetch-clause-brings : goal.returns-in_err-fetch-clause-brings
+returns-in_err-fetch-clause-brings g c =
+    let reads = subst (λ (view : TextView). Calls c.args.self.now.buffer false false view.buffer) (sym c.self-in-loop-stop.view_is) c.loop-stop.invariant.reads in
+    let brings = subst (λ (view : TextView). ReadsOn c.args.self.now.buffer view.buffer) (sym c.self-in-loop-stop.view_is) c.loop-stop.invariant.brings in
+    on_then _ _ _ reads brings (fails_on _ c.fetch.new.self c.in_err-fetch.field-0.0 c.in_err-fetch.ensures.outcome)
+
+pub returns-in-End-clause-brings : goal.returns-in-End-clause-brings
+returns-in-End-clause-brings g c =
+    let came = rw c.in-End.is at c.in_ok-fetch.ensures.outcome in
+    let reads = subst (λ (view : TextView). Calls c.args.self.now.buffer false false view.buffer) (sym c.self-in-loop-stop.view_is) c.loop-stop.invariant.reads in
+    let brings = subst (λ (view : TextView). ReadsOn c.args.self.now.buffer view.buffer) (sym c.self-in-loop-stop.view_is) c.loop-stop.invariant.brings in
+    subst (λ (view : TextView). ReadsOn c.args.self.now.buffer view.buffer) (sym c.self-in-loop-stop-2.view_is) (on_then _ _ _ reads brings came.0.brings)
+
+pub returns-in-Waits-clause-brings : goal.returns-in-Waits-clause-brings
+returns-in-Waits-clause-brings g c =
+    let came = rw c.in-Waits.is at c.in_ok-fetch.ensures.outcome in
+    let reads = subst (λ (view : TextView). Calls c.args.self.now.buffer false false view.buffer) (sym c.self-in-loop-stop.view_is) c.loop-stop.invariant.reads in
+    let brings = subst (λ (view : TextView). ReadsOn c.args.self.now.buffer view.buffer) (sym c.self-in-loop-stop.view_is) c.loop-stop.invariant.brings in
+    on_then _ _ _ reads brings came.0.brings
 
 pub returns-in_err-fetch-clause-nothing : goal.returns-in_err-fetch-clause-nothing
 returns-in_err-fetch-clause-nothing g c =
