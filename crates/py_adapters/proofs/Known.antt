@@ -13,7 +13,7 @@ use Rattle.std.specs.declared.io.Error.{Error}
 use Rattle.py_flat.specs.declared.fault.IoFault.{IoFault}
 use Rattle.py_flat.specs.declared.fault.IoFault.TheVariants as fault
 use Rattle.py_flat.specs.Bytes.{filled_to, lay}
-use Rattle.py_flat.specs.Calls.{FileReply, Count, Refused, ReadInto1, Write, Seek, Flush}
+use Rattle.py_flat.specs.Calls.{FileCall, FileReply, Count, Refused, ReadInto1, Write, Seek, Flush}
 use Rattle.py_flat.specs.ExactStep.{rest}
 use Rattle.py_flat.specs.Conversions.{kind_of}
 use Rattle.py_raw.specs.RawStream.{tells}
@@ -25,7 +25,7 @@ use Rattle.py_stream.specs.Writing.{LaysTaken}
 use Rattle.py_stream.specs.Answers.{Answers}
 use Rattle.py_stream.specs.Buffer.{Buffer, flat_of, stream_shown, AnswersAsBuffer}
 use Rattle.py_adapters.specs.Known.{if_told, left_in, bytes_in, written_in, GivesNext, TakesFront}
-use Rattle.py_adapters.specs.Answers.{SaysRead, SaysWritten}
+use Rattle.py_adapters.specs.Answers.{AnsweredBy, MadeBy, SaysRead, SaysWritten}
 use Rattle.py_adapters.proofs.Told.{reading_gives, flush_keeps, flush_still, seek_keeps, laid_grows}
 
 -- Where bytes are told: of those that aren't nothing is claimed.
@@ -147,6 +147,18 @@ takes_within before after own (Ok count) (Err error) answers says = absurd says
 takes_within before after own (Err why) (Ok said) answers says = let grows = write_grows before after own (Refused why) answers in omega (arith, grows.counted, grows.within, says.0)
 takes_within before after own (Err why) (Err error) answers says = tt
 
+-- a write that was done took all that it was given
+all_counted : (before after : Buffer) (own : List ℕ) (count : ℕ) → AnswersAsBuffer before (Write own) (Count count) after → count ≡ length own
+all_counted before after own count answers = let moves = answers.moves.place in grind arith
+
+counted_some : (before after : Buffer) (own : List ℕ) (came : Result ℕ IoFault) (count : ℕ) → 0 < length own → AnswersAsBuffer before (Write own) (count_reply came) after → SaysWritten came after.taken (Ok count) → 0 < count
+counted_some before after own (Ok came) count some answers says = omega (arith, some, says, all_counted before after own came answers)
+counted_some before after own (Err why) count some answers says = rw says.0 says.1
+
+-- so one of some bytes that answers how many it took, took some
+pub takes_some : {Own : Type 0} (shows : Own → Buffer) (own : Own → FileCall → FileReply → Own → Type 0) (bytes : List ℕ) (count : ℕ) (before after : Own) → 0 < length bytes → AnsweredBy (λ (came : Result ℕ IoFault). MadeBy shows own before (Write bytes) (count_reply came) after) (λ (came : Result ℕ IoFault). SaysWritten came (shows after).taken (Ok count)) → 0 < count
+takes_some shows own bytes count before after some by = counted_some (shows before) (shows after) bytes by.came count some by.answered.1 by.said
+
 -- Readings and writes of all that was asked for.
 
 -- what holds of every error holds of an answer's
@@ -162,10 +174,6 @@ takes_front a b c own done left split some appended kept =
       within = omega (arith, ap length split, length-append done left);
       took = subst (Appends a c) (sym (ap (take (length done)) split ∙ take_at done left (length done) refl)) (Appends-kept a b c done appended kept);
     }
-
--- a write of some bytes that took none leaves what was written
-pub takes_none : (b c : Option (List ℕ)) (own : List ℕ) (count : ℕ) → count ≡ 0 → Appends b c (take count own) → Keeps b c
-takes_none b c own count none appended = keeps_appended b c (rw none at appended)
 
 -- what was taken is gone from the front of what is left to be
 pub moves_front : (own done left : List ℕ) (count : ℕ) → own ≡ done ++ left → own ≡ (done ++ take count left) ++ take (length left - count) (drop count left)

@@ -10,7 +10,7 @@ use Rattle.py_flat.specs.Calls.{FileCall, FileReply, Write}
 use Rattle.py_stream.specs.Replies.{into_reply, count_reply}
 use Rattle.py_stream.specs.Buffer.{Buffer}
 use borrow.Rule.Slice.PartMut.{put_mid}
-use Rattle.py_adapters.specs.Answers.{AnsweredBy, MadeBy, SaysRead, SaysWritten, InTurn, MovesInTurn, FillsInTurn, GivesPart, SaysEnded, EndsReading, TakesPart, SaysTookNone, EndsWriting}
+use Rattle.py_adapters.specs.Answers.{AnsweredBy, MadeBy, SaysRead, SaysWritten, InTurn, MovesInTurn, FillsInTurn, GivesPart, SaysEnded, TakesPart, EndsWriting}
 use Rattle.py_adapters.proofs.Known.{part_put, front_put, front_stays}
 
 -- the bytes of a part behind others
@@ -143,8 +143,8 @@ took_more shows own all done left count before mid after parts split same turns 
     } in
     (parts ++ (part ∷ []), joined_on parts part ∙ ap (λ (xs : List ℕ). xs ++ part) same, turns_on (TakesPart shows own all) 0 before mid after parts part turns (some_taken left count some within) (subst (λ (at : ℕ). TakesPart shows own all at mid part after) (omega arith) took))
 
--- a write that took none ended it
-pub took_until : {Own : Type 0} (shows : Own → Buffer) (own : Own → FileCall → FileReply → Own → Type 0) (all done left : List ℕ) (before mid after : Own) (parts : List (List ℕ)) (result : Result (Unit {0}) Error) (error : Error) → all ≡ done ++ left → joined parts ≡ done → InTurn (TakesPart shows own all) 0 before parts mid → 0 < length left → result ≡ Err error → AnsweredBy (λ (came : Result ℕ IoFault). MadeBy shows own mid (Write left) (count_reply came) after) (λ (came : Result ℕ IoFault). SaysTookNone came (shows after).taken error) → MovesInTurn (TakesPart shows own all) (EndsWriting shows own all) all before result after
+-- a write that was refused, and took none, ended it
+pub took_until : {Own : Type 0} (shows : Own → Buffer) (own : Own → FileCall → FileReply → Own → Type 0) (all done left : List ℕ) (before mid after : Own) (parts : List (List ℕ)) (result : Result (Unit {0}) Error) (error : Error) → all ≡ done ++ left → joined parts ≡ done → InTurn (TakesPart shows own all) 0 before parts mid → 0 < length left → result ≡ Err error → AnsweredBy (λ (came : Result ℕ IoFault). MadeBy shows own mid (Write left) (count_reply came) after) (λ (came : Result ℕ IoFault). SaysWritten came (shows after).taken (Err error)) → MovesInTurn (TakesPart shows own all) (EndsWriting shows own all) all before result after
 took_until shows own all done left before mid after parts result error split same turns some says by =
     let behind : drop (length (joined parts)) all ≡ left = left_of all done left parts split same in
     record {
@@ -154,20 +154,3 @@ took_until shows own all done left before mid after parts result error split sam
       turns = turns;
       ends = rw says (omega (arith, some, ap length same, ap length split, length-append done left), record { came = by.came; answered = subst (λ (some : List ℕ). MadeBy shows own mid (Write some) (count_reply by.came) after) (sym behind) by.answered; said = by.said });
     }
-
-took_nothing : (came : Result ℕ IoFault) (taken count : ℕ) (error : Error) → count ≡ 0 → error_kind error ≡ kind.WriteZero → SaysWritten came taken (Ok count) → SaysTookNone came taken error
-took_nothing (Ok zero) taken count error none is says = is
-took_nothing (Ok (suc own)) taken count error none is says = absurd (omega (arith, none, says))
-took_nothing (Err why) taken count error none is says = absurd (omega (arith, none, says.0, says.1))
-
-took_error : (came : Result ℕ IoFault) (taken : ℕ) (error : Error) → SaysWritten came taken (Err error) → SaysTookNone came taken error
-took_error (Ok count) taken error says = absurd says
-took_error (Err why) taken error says = says
-
--- a write that took none, by what it said
-
-pub refused_taking : (P : Result ℕ IoFault → Type 0) (taken : ℕ) (error : Error) → AnsweredBy P (λ (came : Result ℕ IoFault). SaysWritten came taken (Err error)) → AnsweredBy P (λ (came : Result ℕ IoFault). SaysTookNone came taken error)
-refused_taking P taken error by = record { came = by.came; answered = by.answered; said = took_error by.came taken error by.said }
-
-pub taking_none : (P : Result ℕ IoFault → Type 0) (taken count : ℕ) (error : Error) → count ≡ 0 → error_kind error ≡ kind.WriteZero → AnsweredBy P (λ (came : Result ℕ IoFault). SaysWritten came taken (Ok count)) → AnsweredBy P (λ (came : Result ℕ IoFault). SaysTookNone came taken error)
-taking_none P taken count error none is by = record { came = by.came; answered = by.answered; said = took_nothing by.came taken count error none is by.said }

@@ -100,16 +100,10 @@ pub record FillsInTurn {Own : Type 0} (answers : Own → ℕ → FileReply → O
 abbrev pub TakesPart : {Own : Type 0} (shows : Own → Buffer) (own : Own → FileCall → FileReply → Own → Type 0) (all : List ℕ) → ℕ → Own → List ℕ → Own → Type 0
 TakesPart shows own all done before part after = AnsweredBy (λ came. MadeBy shows own before (Write (drop done all)) (count_reply came) after) (λ came. SaysWritten came (shows after).taken (Ok (length part)))
 
--- the last write took none, and said so or was refused
-abbrev pub SaysTookNone : Result ℕ IoFault → (taken : ℕ) → Error → Type 0
-SaysTookNone (Ok zero) taken error = error_kind error ≡ kind.WriteZero
-SaysTookNone (Ok (suc count)) taken error = ⊥
-SaysTookNone (Err why) taken error = (taken ≡ 0) × (error_kind error ≡ kind_of why)
-
--- a write of some bytes ends once all of them were taken, or with the error of one write more
+-- a write of some bytes ends once all of them were taken, or with the error of one write more, which took none
 abbrev pub EndsWriting : {Own : Type 0} (shows : Own → Buffer) (own : Own → FileCall → FileReply → Own → Type 0) (all : List ℕ) → ℕ → Own → Result (Unit {0}) Error → Own → Type 0
 EndsWriting shows own all done before (Ok taken) after = (done ≡ length all) × (after ≡ before)
-EndsWriting shows own all done before (Err error) after = (done < length all) × AnsweredBy (λ came. MadeBy shows own before (Write (drop done all)) (count_reply came) after) (λ came. SaysTookNone came (shows after).taken error)
+EndsWriting shows own all done before (Err error) after = (done < length all) × AnsweredBy (λ came. MadeBy shows own before (Write (drop done all)) (count_reply came) after) (λ came. SaysWritten came (shows after).taken (Err error))
 
 -- Seeks.
 

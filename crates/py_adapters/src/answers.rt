@@ -31,13 +31,6 @@ pub(crate) fn io_ended() -> io::Error
     io::Error::new(io::ErrorKind::UnexpectedEof, "failed to fill whole buffer")
 }
 
-/// The error of a write that took nothing, though it was given some bytes.
-pub(crate) fn io_took_none() -> io::Error
-    ensures { error_kind result ≡ kind.WriteZero }
-{
-    io::Error::new(io::ErrorKind::WriteZero, "failed to write whole buffer")
-}
-
 /// An answer of a stream, or the error of its refusal.
 pub(crate) fn io_result<A>(came: Result<A, IoFault>) -> io::Result<A>
     ensures says { Says came result }

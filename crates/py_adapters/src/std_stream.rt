@@ -2,8 +2,7 @@
 ghost use Rattle.std.specs.Prelude.{◌≡◌};
 
 use crate::answers::{
-    io_ended, io_moved, io_past_all, io_refused, io_refused_write, io_result, io_took_none,
-    io_would_block,
+    io_ended, io_moved, io_past_all, io_refused, io_refused_write, io_result, io_would_block,
 };
 use crate::{LendHeld, ReadOnce};
 use py_flat::IoFault;
@@ -180,8 +179,8 @@ impl<S: BufferedStream> Write for StdStream<S> {
 
     /// Takes all of `buf`, by as many writes as that takes.
     ///
-    /// Every error is that of the last write, but for `WriteZero`, where that took nothing and said so. Some of the bytes may be taken then; how
-    /// many isn't told, as of std's own: where that matters, `write`.
+    /// Every error is that of the last write, which took none. The writes before it may have taken some of the bytes; how many isn't told, as
+    /// of std's own: where that matters, `write`.
     fn write_all(&mut self, buf: &[u8]) -> io::Result<()>
         ensures bytes { OnOk result (Appends (written_in (S.shows self.old)) (written_in (S.shows self.new)) buf.now) }
         ensures part { IfErr result (λ error. TakesFront (written_in (S.shows self.old)) buf.now (written_in (S.shows self.new))) }
@@ -191,9 +190,6 @@ impl<S: BufferedStream> Write for StdStream<S> {
         let mut rest = buf;
         while !rest.is_empty() {
             let count = self.write(rest)?;
-            if count == 0 {
-                return Err(io_took_none());
-            }
             rest = &rest[count..];
         }
         Ok(())
