@@ -8,18 +8,6 @@ use Rattle.py_stream.specs.Replies.{count_reply}
 use Rattle.py_read_text.specs.TextState.{TextState}
 use Rattle.py_read_text.specs.Answers.{Answers}
 
--- a `write` of a text took all of what it was given: it counts it, or would have blocked
-abbrev pub IsTaken : Result ℕ IoFault → Type 0
-IsTaken (Ok count) = Unit {0}
-IsTaken (Err (fault.WouldBlock taken)) = Unit {0}
-IsTaken (Err why) = ⊥
-
--- a piece was written by one `write` of a text, which took it
-pub record TakesPiece (before : TextState) (piece : List ℕ) (after : TextState) : Type 0 where
-  pub wrote : Result ℕ IoFault
-  pub answers : Answers before (WriteText piece) (count_reply wrote) after
-  pub taken : IsTaken wrote
-
 -- what `fmt` is answered, and what is told of the text: a piece that was taken is done, and a wait is told; what refuses a piece is an error
 -- that says nothing, and is told
 abbrev pub SaysPiece : Result ℕ IoFault → Result (Unit {0}) Error → (was told : Option IoFault) → Type 0

@@ -1,7 +1,7 @@
 //! A text over a stream as a writer of std's `fmt`.
-ghost use Rattle.std.specs.Prelude.{◌≡◌, None, IsOk, chars};
+ghost use Rattle.std.specs.Prelude.{◌≡◌, None, Ok, IsOk, chars};
 ghost use Rattle.py_adapters.specs.Writing.{WritesThrough};
-ghost use Rattle.py_adapters.specs.Formatting.{TakesPiece, AnswersPiece};
+ghost use Rattle.py_adapters.specs.Formatting.{AnswersPiece};
 
 use py_flat::IoFault;
 use py_stream::BufferedStream;
@@ -46,10 +46,10 @@ impl<'a, B: BufferedStream> FmtWriter<'a, B> {
 /// Each piece is one `write` of the text, which takes all of its characters, also where it answers `WouldBlock`; or it refuses the piece,
 /// and says what stands then.
 impl<'a, B: BufferedStream> fmt::Write for FmtWriter<'a, B> {
-    ghost write_str_gives = { λ before piece after. WritesThrough before.text after.text (TakesPiece before.text.now (chars piece) after.text.now) };
+    ghost write_str_gives = { λ before piece after. WritesThrough before.text after.text (AnswersPiece before.text.now (chars piece) (Ok tt) after.text.now before.fault after.fault) };
 
     fn write_str(&mut self, s: &str) -> fmt::Result
-        ensures ok { IsOk result → WritesThrough self.old.text self.new.text (TakesPiece self.old.text.now (chars s.now) self.new.text.now) }
+        ensures ok { IsOk result → WritesThrough self.old.text self.new.text (AnswersPiece self.old.text.now (chars s.now) (Ok tt) self.new.text.now self.old.fault self.new.fault) }
         ensures answers { WritesThrough self.old.text self.new.text (AnswersPiece self.old.text.now (chars s.now) result self.new.text.now self.old.fault self.new.fault) }
     {
         let Err(fault) = self.text.write(self.alloc, s) else {
