@@ -1,4 +1,4 @@
-//! Streams that give bytes into a caller's buffer, by at most one transfer.
+//! Streams that give bytes into a caller's buffer, by at most one reading of their raw.
 ghost use Rattle.std.specs.Prelude.{◌≡◌, ℕ, List, Option, Some, length};
 ghost use Rattle.py_flat.specs.Calls.{FileReply, ReadInto1};
 ghost use Rattle.py_flat.specs.ExactStep.{rest};
@@ -13,7 +13,8 @@ use py_flat::IoFault;
 use py_memio::BytesIO;
 use py_raw::RawStream;
 
-/// A stream that is read into a caller's buffer, by at most one transfer of its raw.
+/// A stream that is read into a caller's buffer, by at most one reading of its raw. A `BufferedRandom` that owes bytes and holds nothing
+/// ahead passes on first all that it owes, by as many writes as that takes.
 pub trait ReadOnce {
     /// What such a reading of so many bytes may answer and leave: the clause of the stream's own `readinto1`.
     ghost answers: { Self → ℕ → FileReply → Self → Type 0 };

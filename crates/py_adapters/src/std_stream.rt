@@ -53,7 +53,8 @@ impl<S> StdStream<S> {
     }
 }
 
-/// As the stream's `readinto1`: some of the next bytes, by at most one transfer.
+/// As the stream's `readinto1`: some of the next bytes, by at most one reading of the raw. A `BufferedRandom` that owes bytes and holds
+/// nothing ahead passes on first all that it owes.
 impl<S: ReadOnce> Read for StdStream<S> {
     ghost use Rattle.std.specs.Prelude.{length, OnOk, IfErr};
     ghost use Rattle.std.specs.Io.{ReadsAtMost};
@@ -118,8 +119,8 @@ impl<S: LendHeld> BufRead for StdStream<S> {
 
     ghost consumable_len = { λ stream. Some (S.lends stream) };
 
-    /// Lends the bytes that are held from the place on; where none are, one transfer of the raw brings some. None are lent exactly where
-    /// nothing is left. The place stays. It takes no memory, but a raw may.
+    /// Lends the bytes that are held from the place on; where none are, one reading of the raw brings some, of a `BufferedRandom` after all
+    /// that is owed was passed on. None are lent exactly where nothing is left. The place stays. It takes no memory, but a raw may.
     ///
     /// `WouldBlock`: the raw would have blocked before any byte. Every other error is that of a refusal of the stream's `peek`. They leave
     /// what is left as it was.
@@ -162,8 +163,9 @@ impl<S: BufferedStream> Write for StdStream<S> {
     /// Takes bytes at the place, and answers how many: all of them but where the raw would have blocked or failed, or memory ran out, once
     /// some were taken.
     ///
-    /// An error took none: `WouldBlock` where the raw would have blocked, else that of a refusal of the stream's `write`. What went wrong
-    /// after some bytes the next call tells, as std has it: where the raw failed or memory ran out, that the stream did.
+    /// An error took none: `WouldBlock` where the raw would have blocked, else that of a refusal of the stream's `write`. Where the raw failed
+    /// or memory ran out after some bytes, the next call tells, as std has it, that the stream failed. A wait after some isn't told: the next
+    /// call is made to wait, or goes on.
     #[inline(always)]
     fn write(&mut self, buf: &[u8]) -> io::Result<usize>
         ensures bound { WritesAtMost result buf.now }
@@ -263,7 +265,7 @@ impl<S: BufferedStream> Seek for StdStream<S> {
         io_moved(self.stream.seek(offset, 1))
     }
 
-    /// The place. It calls no raw. Every error is that of a refusal of the stream's `tell`.
+    /// The place. It calls no raw, and all that is held stays. Every error is that of a refusal of the stream's `tell`.
     fn stream_position(&mut self) -> io::Result<u64>
         ensures value { IfSome (Some (S.shows self.old).place) (λ at. IfOk result (λ n. n ≡ at)) }
         ensures stays { StaysAt (Some (S.shows self.old).place) (Some (S.shows self.new).place) }
