@@ -22,6 +22,7 @@ fn main(rt: HostRuntime) -> Result<()> {
     print(&rt, tables::copied(alloc))?;
     print(&rt, tables::moved(alloc))?;
     print(&rt, tables::over_waits(alloc))?;
+    print(&rt, tables::written_over_waits(alloc))?;
     print(&rt, waits::read_over_waits(alloc))?;
     print(&rt, waits::exactly(alloc))?;
     print(&rt, waits::written_over_waits(alloc))?;

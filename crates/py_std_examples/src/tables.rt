@@ -1,7 +1,7 @@
 //! A table of comma separated values, read from a stream and written to another by the crate `csv`.
 use crate::waits::read_all;
 use anyhow::{Result, anyhow};
-use csv::{ByteRecord, Error, ReaderBuilder, WriterBuilder};
+use csv::{ByteRecord, Error, ErrorKind, ReaderBuilder, Writer, WriterBuilder};
 use py_adapters::StdStream;
 use py_buffered::{BufferedReader, BufferedWriter};
 use py_memio::BytesIO;
@@ -31,9 +31,8 @@ fn records<R: Read + Drop>(alloc: Global, reader: R) -> Result<Vec<ByteRecord>, 
     Ok(rows)
 }
 
-/// Writes the records to a writer, which is handed back.
-fn write_records<W: Write + Drop>(rows: &[ByteRecord], writer: W) -> Result<W, Error> {
-    let mut table = WriterBuilder::new().from_writer(writer);
+/// Writes the records to a table.
+fn put_records<W: Write + Drop>(rows: &[ByteRecord], table: &mut Writer<W>) -> Result<(), Error> {
     for row in rows {
         for field in 0..row.len() {
             if let Some(bytes) = row.get(field) {
@@ -42,6 +41,13 @@ fn write_records<W: Write + Drop>(rows: &[ByteRecord], writer: W) -> Result<W, E
         }
         table.end_record()?;
     }
+    Ok(())
+}
+
+/// Writes the records to a writer, which is handed back.
+fn write_records<W: Write + Drop>(rows: &[ByteRecord], writer: W) -> Result<W, Error> {
+    let mut table = WriterBuilder::new().from_writer(writer);
+    put_records(rows, &mut table)?;
     match table.into_inner() {
         Ok(writer) => Ok(writer),
         Err(error) => Err(error.into_error()),
@@ -149,6 +155,71 @@ fn are_records(rows: &[ByteRecord]) -> bool {
 /// Whether a record has these two fields.
 fn is_record(row: &ByteRecord, name: &[u8], count: &[u8]) -> bool {
     row.len() == 2 && row.get(0) == Some(name) && row.get(1) == Some(count)
+}
+
+/// A stream to a raw that moves one byte at a time, and would have blocked twice after each.
+fn waiting_writer(alloc: Global) -> Result<StdStream<BufferedWriter<MemRaw>>> {
+    let flags = RawFlags::able(false, true, false); // it can be written
+    let mut plan = Vec::new(alloc);
+    for _ in TABLE {
+        plan.push(Cut::Take(1))?;
+        plan.push(Cut::Wait)?;
+        plan.push(Cut::Wait)?;
+    }
+    let raw = MemRaw::new(Vec::new(alloc), flags, plan, Vec::new(alloc));
+    Ok(StdStream::new(BufferedWriter::new(alloc, raw, 8)?))
+}
+
+/// Whether a table failed as the raw would have blocked.
+fn is_wait(error: &Error) -> bool {
+    match error.kind() {
+        ErrorKind::Io(error) => error.kind() == io::ErrorKind::WouldBlock,
+        _ => false,
+    }
+}
+
+/// Passes on all that was written to a table, again after each wait; answers how many waits there were.
+fn flush_table<W: Write + Drop>(table: &mut Writer<W>) -> Result<u64, Error> {
+    for waits in 0..u64::MAX {
+        match table.flush() {
+            Err(error) if is_wait(&error) => {} // what wasn't taken is kept
+            Err(error) => return Err(error),
+            Ok(()) => return Ok(waits),
+        }
+    }
+    Ok(u64::MAX)
+}
+
+/// Writes the records to a writer over waits, and hands it back; answers how many waits there were.
+fn write_over_waits<W: Write + Drop>(rows: &[ByteRecord], writer: W) -> Result<(u64, W), Error> {
+    let mut table = WriterBuilder::new().from_writer(writer);
+    put_records(rows, &mut table)?;
+    let waits = flush_table(&mut table)?;
+    match table.into_inner() {
+        Ok(writer) => Ok((waits, writer)), // nothing was left to wait for
+        Err(error) => Err(error.into_error()),
+    }
+}
+
+/// What the records are, written over waits.
+fn flushed(alloc: Global, rows: &[ByteRecord]) -> Result<String> {
+    match write_over_waits(rows, waiting_writer(alloc)?) {
+        Ok((waits, stream)) => shown_written(alloc, waits, is_table(stream.stream().raw())),
+        Err(error) => Err(anyhow!("{error}")),
+    }
+}
+
+/// A table is written over waits: its records, and then a flush, again after each wait.
+pub(crate) fn written_over_waits(alloc: Global) -> Result<String> {
+    match records(alloc, table_reader(alloc)?) {
+        Ok(rows) => flushed(alloc, &rows),
+        Err(error) => Err(anyhow!("{error}")),
+    }
+}
+
+/// How many flushes had to be made again, and whether what the writer's raw has then is the table.
+fn shown_written(alloc: Global, waits: u64, same: bool) -> Result<String> {
+    Ok(format!(in alloc; "table written over waits: {waits} calls more, the same bytes: {same}")?)
 }
 
 /// Whether what a raw has is the table.
