@@ -26,8 +26,8 @@ pub trait LineSource {
     ghost rule: { Self → Newlines };
 
     /// The next line with its end, at most `limit` bytes or characters of it; the last may lack its end. An empty
-    /// one means the end, unless the limit was 0. `None`: the raw would have blocked before any of it. It is refused as the source's own
-    /// `readline` is.
+    /// one means the end, unless the limit was 0. `None`: the raw would have blocked before any of it could be given. It is refused as the
+    /// source's own `readline` is.
     fn readline(
         &mut self,
         alloc: Global,
