@@ -45,9 +45,9 @@ place_stays (WriteText text) place = tt
 place_stays (SeekText sought whence) place = tt
 place_stays call place = refl
 
-written_stays : (settings : TextSettings) (call : TextFileCall) (place : TextPlace) → WriteMoves settings call (Refused fault.Detached) place place
-written_stays settings (WriteText text) place = refl
-written_stays settings call place = tt
+written_stays : (text : TextOver Buffer) (call : TextFileCall) → WriteMoves text call (Refused fault.Detached) text
+written_stays text (WriteText written) = refl
+written_stays text call = tt
 
 wants_none : (call : TextFileCall) (buffer : Buffer) → WantsMemory call (Refused fault.Detached) buffer
 wants_none Flush buffer = tt
@@ -118,7 +118,7 @@ gone_answers can buffering settings raw call asks =
       counted = λ exact. record { faults = λ sound. refl; ends = λ own. record { waits = λ whole has. refl; once = λ short. absurd (cc); most = inl refl } };
       shorts = refl;
       nothing = λ none. refl;
-      moves = record { settings = settings_stay call settings; life_is = life_stays can.writable call; place = place_stays call gone.text.place; written = written_stays settings call gone.text.place };
+      moves = record { settings = settings_stay call settings; life_is = life_stays can.writable call; place = place_stays call gone.text.place; written = written_stays gone.text call };
       lines = lines_none call settings.newline;
       blames = blames_none call gone.text.place gone.text.buffer.place;
       tells = tells_none call gone.text;

@@ -242,7 +242,7 @@ returned old new (Ok place) is at answers =
     let goes : Some (0 + old.at) ≡ Some place = answers.moves.place.1 in
     let there : 0 + old.at ≡ place = cc in
     (omega (arith, at, there, answers.moves.place.0), leaves_flat old.buffer new.buffer old.at (Place place) is answers.moves.life_is answers.shorts answers, λ stood. absurd (is.apart stood))
-returned old new (Err fault.RawFault) is at answers = (leaves_flat old.buffer new.buffer old.at (Refused fault.RawFault) is answers.moves.life_is answers.shorts answers, answers.moves.place)
+returned old new (Err fault.RawFault) is at answers = (leaves_flat old.buffer new.buffer old.at (Refused fault.RawFault) is answers.moves.life_is answers.shorts answers, answers.moves.place, is.apart)
 returned old new (Err fault.NoMemory) is at answers = (leaves_flat old.buffer new.buffer old.at (Refused fault.NoMemory) is answers.moves.life_is answers.shorts answers, seek_place (size_shown old.buffer.buffering) old.at fault.NoMemory old.buffer.life new.buffer.life old.buffer.place new.buffer.place is.live answers.moves.life_is answers.moves.place)
 returned old new (Err (fault.WouldBlock taken)) is at answers = absurd (never_waits new.buffer.short answers.shorts (answers.unwaited refl refl is.none))
 returned old new (Err other) is at answers = absurd (answers.answer (accepts_seek old.buffer old.at is.live is.moves is.appends is.kept is.within).0)

@@ -85,9 +85,9 @@ lives_so : (writes : Bool) (asked : Wanted) (reply : FileReply) (before after : 
 lives_so writes (Characters size) reply before after is = grind arith
 lives_so writes (Line limit) reply before after is = grind arith
 
-writes_none : (settings : TextSettings) (asked : Wanted) (reply : FileReply) (before after : TextPlace) → WriteMoves settings (call_of asked) reply before after
-writes_none settings (Characters size) reply before after = tt
-writes_none settings (Line limit) reply before after = tt
+writes_none : (asked : Wanted) (before : TextOver Buffer) (reply : FileReply) (after : TextOver Buffer) → WriteMoves before (call_of asked) reply after
+writes_none (Characters size) before reply after = tt
+writes_none (Line limit) before reply after = tt
 
 passes_none : (before : TextState) (asked : Wanted) (reply : FileReply) (after : TextState) → TextPasses before (call_of asked) reply after
 passes_none before (Characters size) reply after = tt
@@ -174,7 +174,7 @@ answers old new asked waited short reply live can parts =
         settings = parts.settings ∙ sym (settings_so asked reply old.settings);
         life_is = lives_so old.buffer.can.writable asked reply old.buffer.life new.buffer.life parts.reads.life_is;
         place = parts.place;
-        written = writes_none old.settings asked reply (place_of old) (place_of new);
+        written = writes_none asked (over_of old) reply (over_of new);
       };
       answer = λ accepts. parts.answer old.buffer.can.writable;
       complete = λ accepts calm sound. completes asked reply short old.buffer new.buffer old.buffer.can.writable (parts.answer old.buffer.can.writable) parts.shorts causes_wait parts.reads.fault calm sound;

@@ -174,18 +174,23 @@ PlaceMoves call short reply before end after = after ≡ before
 abbrev pub further : TextPlace → ℕ → TextPlace
 further place count = record place { at = place.at + count }
 
--- a call that failed left the place, or moved it behind n bytes
-abbrev pub MayMove : ℕ → TextPlace → TextPlace → Type 0
-MayMove count before after = (after ≡ before) ⊎ (after ≡ further before count)
+-- the raw failed in a write of n bytes: the text stands behind them all, or as it was where its buffer was read ahead of it, and so had to
+-- go back first
+abbrev pub FaultMoves : ℕ → TextOver Buffer → TextOver Buffer → Type 0
+FaultMoves count before after = (after.place ≡ further before.place count) ⊎ ((behind_own before ≢ before.place.at) × (after.place ≡ before.place))
 
--- the place after a write: behind all its bytes, also where the raw would have blocked; after a fault, or out of memory, there or as it was
-abbrev pub WriteMoves : TextSettings → TextFileCall → FileReply → TextPlace → TextPlace → Type 0
-WriteMoves settings (WriteText text) (Count count) before after = after ≡ further before (length (written_bytes settings text))
-WriteMoves settings (WriteText text) (Refused (fault.WouldBlock taken)) before after = (taken ≡ length (written_bytes settings text)) × (after ≡ further before taken)
-WriteMoves settings (WriteText text) (Refused fault.RawFault) before after = MayMove (length (written_bytes settings text)) before after
-WriteMoves settings (WriteText text) (Refused fault.NoMemory) before after = MayMove (length (written_bytes settings text)) before after
-WriteMoves settings (WriteText text) reply before after = after ≡ before
-WriteMoves settings call reply before after = Unit {0}
+-- a write of n bytes ran out of memory: the text lives on and stands as it was, or failed and stands behind them all
+abbrev pub MemoryMoves : ℕ → TextOver Buffer → TextOver Buffer → Type 0
+MemoryMoves count before after = ((after.life ≡ before.life) × (after.place ≡ before.place)) ⊎ ((after.life ≡ life.Failed) × (after.place ≡ further before.place count))
+
+-- the place after a write: behind all its bytes, also where the raw would have blocked, and where what failed took them
+abbrev pub WriteMoves : TextOver Buffer → TextFileCall → FileReply → TextOver Buffer → Type 0
+WriteMoves before (WriteText text) (Count count) after = after.place ≡ further before.place (length (written_bytes before.settings text))
+WriteMoves before (WriteText text) (Refused (fault.WouldBlock taken)) after = (taken ≡ length (written_bytes before.settings text)) × (after.place ≡ further before.place taken)
+WriteMoves before (WriteText text) (Refused fault.RawFault) after = FaultMoves (length (written_bytes before.settings text)) before after
+WriteMoves before (WriteText text) (Refused fault.NoMemory) after = MemoryMoves (length (written_bytes before.settings text)) before after
+WriteMoves before (WriteText text) reply after = after.place ≡ before.place
+WriteMoves before call reply after = Unit {0}
 
 -- a line that is given, whole or short, is one: no line end stands in it but at its end, and it goes no further than the limit
 abbrev pub ReadsOneLine : Newlines → TextFileCall → FileReply → Type 0
@@ -197,7 +202,7 @@ pub record TextMoves (before : TextState) (call : TextFileCall) (reply : FileRep
   pub settings : after.text.settings ≡ settings_after call reply before.text.settings
   pub life_is : LifeMoves before.text.buffer.can.writable call reply before.text.life after.text.life
   pub place : PlaceMoves call after.short reply before.text.place after.text.buffer.place after.text.place
-  pub written : WriteMoves before.text.settings call reply before.text.place after.text.place
+  pub written : WriteMoves before.text call reply after.text
 
 -- What a refused range says.
 

@@ -1,5 +1,5 @@
 -- How a text that is written stands on the one that reads: what it hands its buffer, and how it goes back to its place.
-use Rattle.std.specs.Prelude.{◌≡◌, ℕ, ◌≤◌, Bool, true, false, IsTrue, Result, Ok, Err, if◌then◌else◌}
+use Rattle.std.specs.Prelude.{◌≡◌, ◌≢◌, ℕ, ◌≤◌, Bool, true, false, IsTrue, Result, Ok, Err, if◌then◌else◌}
 use Rattle.py_flat.specs.declared.fault.IoFault.{IoFault}
 use Rattle.py_flat.specs.declared.fault.IoFault.TheVariants as fault
 use Rattle.py_flat.specs.declared.life.Life.TheVariants as life
@@ -37,9 +37,10 @@ abbrev pub unit_of : Result ℕ IoFault → Result (Unit {0}) IoFault
 unit_of (Ok number) = Ok tt
 unit_of (Err why) = Err why
 
--- a buffer was moved back to the place of its text, or stood there and is as it was; or asking the raw failed, or memory ran out
+-- a buffer was moved back to the place of its text, or stood there and is as it was; or it stood elsewhere and asking the raw failed, or
+-- memory ran out
 abbrev pub ReturnOutcome : TextView → Result (Unit {0}) IoFault → TextView → Type 0
 ReturnOutcome old (Ok done) new = (new.at ≡ new.buffer.place) × LeavesFlat old.buffer false new.buffer × (old.at ≡ old.buffer.place → new.buffer ≡ old.buffer)
-ReturnOutcome old (Err fault.RawFault) new = LeavesFlat old.buffer true new.buffer × (new.buffer.place ≡ old.buffer.place)
+ReturnOutcome old (Err fault.RawFault) new = LeavesFlat old.buffer true new.buffer × (new.buffer.place ≡ old.buffer.place) × (old.at ≢ old.buffer.place)
 ReturnOutcome old (Err fault.NoMemory) new = LeavesFlat old.buffer false new.buffer × (new.buffer.place ≡ old.buffer.place)
 ReturnOutcome old (Err other) new = ⊥

@@ -195,7 +195,7 @@ needs_over old mid new call short hands current stood there needs told =
     (subst (λ (settings : TextSettings). AsksAsNeeded (file_now mid) call settings.chunk_size (starts_at (state_of old false)) new.text.buffer.place) hands.settings
     (subst (λ (at : ℕ). AsksAsNeeded (file_now mid) call mid.text.settings.chunk_size at new.text.buffer.place) start (needs (tells_still old.text.buffer.raw mid.text.buffer.raw hands.calls.keeps.raw ∙ told))))
 
-pub answers_over : (old mid : WrittenView) (call : TextFileCall) (reply : FileReply) (new : WrittenView) (short : Bool) → IsJoined (over_of old) → IsJoined (over_of mid) → old.text.buffer.can.writable ≡ true → old.life ≡ life.Live → mid.life ≡ life.Live → old.text.at ≡ old.text.buffer.place → mid.text.at ≡ mid.text.buffer.place → HandsOn old false false mid → mid.pending ≡ [] → passes_on old.pending call ≡ true → old.pending ≢ [] → calls_nothing call ≡ false → closes_again life.Live call ≡ false → refused_here (file_now old) call ≡ None → refused_here (file_now mid) call ≡ None → WriteMoves old.text.settings call reply (place_now old) (place_now new) → TextPasses (state_of old false) call reply (state_of new short) → WantsMemory call reply old.text.buffer → Closes old.life call old.text.buffer reply new.text.buffer → (gives_text call ≡ true → ReadsNoFurther (state_of old false) call (state_of new short)) → TextHolds (over_of old) call reply (over_of new) → Answers (state_of mid false) call reply (state_of new short) → Works old call reply new short
+pub answers_over : (old mid : WrittenView) (call : TextFileCall) (reply : FileReply) (new : WrittenView) (short : Bool) → IsJoined (over_of old) → IsJoined (over_of mid) → old.text.buffer.can.writable ≡ true → old.life ≡ life.Live → mid.life ≡ life.Live → old.text.at ≡ old.text.buffer.place → mid.text.at ≡ mid.text.buffer.place → HandsOn old false false mid → mid.pending ≡ [] → passes_on old.pending call ≡ true → old.pending ≢ [] → calls_nothing call ≡ false → closes_again life.Live call ≡ false → refused_here (file_now old) call ≡ None → refused_here (file_now mid) call ≡ None → WriteMoves (over_of old) call reply (over_of new) → TextPasses (state_of old false) call reply (state_of new short) → WantsMemory call reply old.text.buffer → Closes old.life call old.text.buffer reply new.text.buffer → (gives_text call ≡ true → ReadsNoFurther (state_of old false) call (state_of new short)) → TextHolds (over_of old) call reply (over_of new) → Answers (state_of mid false) call reply (state_of new short) → Works old call reply new short
 answers_over old mid call reply new short was is writes live lives stood there hands none busy owes some once accepted still written passes wants closes needs holds answers =
     let can : mid.text.buffer.can ≡ old.text.buffer.can = hands.calls.keeps.can in
     let current : mid.life ≡ old.life = lives ∙ sym live in
@@ -248,9 +248,9 @@ answers_over old mid call reply new short was is writes live lives stood there h
 
 -- A call of a live text that owed something, behind what was handed on.
 
-unwritten_read : (asked : Wanted) (settings : TextSettings) (reply : FileReply) (before after : TextPlace) → WriteMoves settings (call_of asked) reply before after
-unwritten_read (Characters size) settings reply before after = tt
-unwritten_read (Line limit) settings reply before after = tt
+unwritten_read : (asked : Wanted) (before : TextOver Buffer) (reply : FileReply) (after : TextOver Buffer) → WriteMoves before (call_of asked) reply after
+unwritten_read (Characters size) before reply after = tt
+unwritten_read (Line limit) before reply after = tt
 
 unpassed_read : (asked : Wanted) (before : TextState) (reply : FileReply) (after : TextState) → TextPasses before (call_of asked) reply after
 unpassed_read (Characters size) before reply after = tt
@@ -284,7 +284,7 @@ pub read_over : (old mid new : WrittenView) (asked : Wanted) (reply : FileReply)
 read_over old mid new asked reply short was is writes live stood there owes can some outcome answers =
     let hands = outcome.0 in
     let still : mid.text.buffer.can.readable ≡ true = ap (λ (own : Abilities). own.readable) hands.calls.keeps.can ∙ can in
-    answers_work old (call_of asked) reply new short (answers_over old mid (call_of asked) reply new short was is writes live outcome.2 stood there hands outcome.1 (busy_read old.pending asked owes) owes (some_read asked some) (once_read asked) (accepts_here (file_now old) asked live can) (accepts_here (file_now mid) asked outcome.2 still) (unwritten_read asked old.text.settings reply (place_now old) (place_now new)) (unpassed_read asked (state_of old false) reply (state_of new short)) (unwanted_read asked reply old.text.buffer) (unclosed_read asked old.life old.text.buffer reply new.text.buffer) (λ gives. needs_over old mid new (call_of asked) short hands (outcome.2 ∙ sym live) stood there (answers.needs gives)) (unheld_read asked (over_of old) reply (over_of new)) answers)
+    answers_work old (call_of asked) reply new short (answers_over old mid (call_of asked) reply new short was is writes live outcome.2 stood there hands outcome.1 (busy_read old.pending asked owes) owes (some_read asked some) (once_read asked) (accepts_here (file_now old) asked live can) (accepts_here (file_now mid) asked outcome.2 still) (unwritten_read asked (over_of old) reply (over_of new)) (unpassed_read asked (state_of old false) reply (state_of new short)) (unwanted_read asked reply old.text.buffer) (unclosed_read asked old.life old.text.buffer reply new.text.buffer) (λ gives. needs_over old mid new (call_of asked) short hands (outcome.2 ∙ sym live) stood there (answers.needs gives)) (unheld_read asked (over_of old) reply (over_of new)) answers)
 
 pub busy_other : (owed : List ℕ) (call : TextFileCall) → owed ≢ [] → passes_on owed call ≡ true
 busy_other [] call some = absurd (some refl)

@@ -46,12 +46,12 @@ life_refused writes call fault.NoMemory current own = inl refl
 life_refused writes Close why current own = refl
 life_refused writes call why current own = refl
 
-written_refused : (settings : TextSettings) (call : TextFileCall) (why : IoFault) (place : TextPlace) → blames why ≡ false → WriteMoves settings call (Refused why) place place
-written_refused settings (WriteText text) (fault.WouldBlock taken) place own = absurd (cc)
-written_refused settings (WriteText text) fault.RawFault place own = inl refl
-written_refused settings (WriteText text) fault.NoMemory place own = inl refl
-written_refused settings (WriteText text) why place own = refl
-written_refused settings call why place own = tt
+written_refused : (text : TextOver Buffer) (call : TextFileCall) (why : IoFault) → blames why ≡ false → WriteMoves text call (Refused why) text
+written_refused text (WriteText written) (fault.WouldBlock taken) own = absurd (cc)
+written_refused text (WriteText written) fault.RawFault own = absurd (cc)
+written_refused text (WriteText written) fault.NoMemory own = inl (refl, refl)
+written_refused text (WriteText written) why own = refl
+written_refused text call why own = tt
 
 keeps_refused : (call : TextFileCall) (why : IoFault) (after : TextState) → TextKeeps call (Refused why) after
 keeps_refused (WriteText text) why after = tt
@@ -189,7 +189,7 @@ refused text was call why here own once joined =
       counted = λ exact. record { faults = λ sound. refl; ends = λ own. record { waits = λ whole has. refl; once = λ short. absurd (cc); most = inl refl } };
       shorts = whole_refused why own;
       nothing = λ none. refl;
-      moves = record { settings = settings_refused call why text.text.settings; life_is = life_refused text.text.buffer.can.writable call why text.life own; place = place_refused call why (place_now text) text.text.buffer.place; written = written_refused text.text.settings call why (place_now text) own };
+      moves = record { settings = settings_refused call why text.text.settings; life_is = life_refused text.text.buffer.can.writable call why text.life own; place = place_refused call why (place_now text) text.text.buffer.place; written = written_refused (over_of text) call why own };
       lines = lines_refused call why text.text.settings.newline;
       blames = blames_refused (file_now text) call why (place_now text) text.text.buffer.place is;
       tells = tells_refused call why (over_of text);

@@ -348,7 +348,7 @@ written_back old new pending before after faulted is live place there leaves wri
 
 pub not_back : (now : WrittenView) (old new : TextView) (pending : List ℕ) (room more : ℕ) (before after : Life) (why : IoFault) → view_of old pending room before ≡ now → IsWritten old pending before → now.life ≡ life.Live → KeepsPlace old new → ReturnOutcome old (Err why) new → after ≡ new.buffer.life → BackOutcome now (Err why) (view_of new pending more after)
 not_back now old new pending room more before after fault.RawFault same is live place outcome current =
-    (subst (λ (view : WrittenView). HandsOn view false true (view_of new pending more after)) same (hands_back old new pending room more before after true is place (inr outcome.1) outcome.0 (is.lives (ap (λ (view : WrittenView). view.life) same ∙ live))), current ∙ outcome.0.life_is)
+    (subst (λ (view : WrittenView). HandsOn view false true (view_of new pending more after)) same (hands_back old new pending room more before after true is place (inr outcome.1) outcome.0 (is.lives (ap (λ (view : WrittenView). view.life) same ∙ live))), current ∙ outcome.0.life_is, subst (λ (view : WrittenView). view.text.at ≢ view.text.buffer.place) same outcome.2)
 not_back now old new pending room more before after fault.NoMemory same is live place outcome current =
     (subst (λ (view : WrittenView). HandsOn view false false (view_of new pending more after)) same (hands_back old new pending room more before after false is place (inr outcome.1) outcome.0 (is.lives (ap (λ (view : WrittenView). view.life) same ∙ live))), current ∙ (outcome.0.life_is ∙ is.lives (ap (λ (view : WrittenView). view.life) same ∙ live)))
 not_back now old new pending room more before after other same is live place outcome current = absurd outcome

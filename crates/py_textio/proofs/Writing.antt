@@ -195,7 +195,7 @@ wrote_failed old new text may took failed joined =
       settings = took.settings;
       life_is = failed;
       place = tt;
-      written = inr took.place;
+      written = inl took.place;
       lines = tt;
       blames = tt;
       seeks = tt;
@@ -237,7 +237,7 @@ wrote_starved old new text may took failed has gave takes joined =
       settings = took.settings;
       life_is = inr (refl, failed);
       place = tt;
-      written = inr took.place;
+      written = inr (failed, took.place);
       lines = tt;
       blames = tt;
       seeks = tt;
@@ -268,8 +268,12 @@ or_false : (own : Bool) → own ≡ true → own || false ≡ true
 or_false true is = refl
 or_false false is = absurd (cc)
 
-pub unwritten_failed : (old new : WrittenView) (text : List ℕ) → MayWrite old text → HandsOn old false true new → new.life ≡ life.Failed → IsJoined (over_of new) → Answers (state_of old false) (WriteText text) (Refused fault.RawFault) (state_of new false)
-unwritten_failed old new text may hands failed joined =
+-- a text whose buffer doesn't stand where what it owes begins was read ahead
+ahead_so : (view : WrittenView) → view.text.at ≢ view.text.buffer.place → behind_own (over_of view) ≢ (place_now view).at
+ahead_so view apart = λ same. apart (omega (arith, same, ap (λ (place : TextPlace). place.at) (behind_so (place_of view.text) view.pending)))
+
+pub unwritten_failed : (old new : WrittenView) (text : List ℕ) → MayWrite old text → HandsOn old false true new → new.life ≡ life.Failed → old.text.at ≢ old.text.buffer.place → IsJoined (over_of new) → Answers (state_of old false) (WriteText text) (Refused fault.RawFault) (state_of new false)
+unwritten_failed old new text may hands failed apart joined =
     answers_work old (WriteText text) (Refused fault.RawFault) new false (record {
       accepted = may.accepted;
       once = refl;
@@ -281,7 +285,7 @@ unwritten_failed old new text may hands failed joined =
       settings = hands.settings;
       life_is = failed;
       place = tt;
-      written = inl hands.place;
+      written = inr (ahead_so old apart, hands.place);
       lines = tt;
       blames = tt;
       seeks = tt;
@@ -320,7 +324,7 @@ unwritten_starved old new text may hands lives joined =
       settings = hands.settings;
       life_is = inl current;
       place = tt;
-      written = inl hands.place;
+      written = inl (current, hands.place);
       lines = tt;
       blames = tt;
       seeks = tt;
@@ -530,7 +534,7 @@ hands_given : (old new : WrittenView) (given : List ℕ) (waited faulted : Bool)
 hands_given old new given waited faulted hands = record { calls = hands.calls; bytes = hands.bytes; place = hands.place; settings = hands.settings; owes = hands.owes; lays = lays_given (over_of old) given (over_of new) hands.lays; stays = hands.stays }
 
 pub written_not : (old new : WrittenView) (text : List ℕ) (why : IoFault) → MayWrite old text → BackOutcome old (Err why) new → IsJoined (over_of new) → Answers (state_of old false) (WriteText text) (Refused why) (state_of new (says_wait (Refused why)))
-written_not old new text fault.RawFault may outcome joined = unwritten_failed old new text may outcome.0 outcome.1 joined
+written_not old new text fault.RawFault may outcome joined = unwritten_failed old new text may outcome.0 outcome.1 outcome.2 joined
 written_not old new text fault.NoMemory may outcome joined = unwritten_starved old new text may (hands_given old new (own_bytes old text) false false outcome.0) outcome.1 joined
 written_not old new text other may outcome joined = absurd outcome
 

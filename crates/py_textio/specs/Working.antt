@@ -25,7 +25,7 @@ pub record Works (old : WrittenView) (call : TextFileCall) (reply : FileReply) (
   pub settings : new.text.settings ≡ settings_after call reply old.text.settings
   pub life_is : LifeMoves true call reply old.life new.life
   pub place : PlaceMoves call short reply (place_now old) new.text.buffer.place (place_now new)
-  pub written : WriteMoves old.text.settings call reply (place_now old) (place_now new)
+  pub written : WriteMoves (over_of old) call reply (over_of new)
   pub lines : ReadsOneLine old.text.settings.newline call reply
   pub blames : TextBlames call reply (place_now old) new.text.buffer.place
   pub seeks : TextSeeks call reply (over_of old) (place_now new)

@@ -182,10 +182,11 @@ pub record GoesBack (old new : WrittenView) : Type 0 where
   pub stands : StandsToWrite new.text
   pub still : old.text.at ≡ old.text.buffer.place → new.text.buffer ≡ old.text.buffer
 
--- the buffer of a clean text goes back to where what is owed begins; or the raw failed, or memory ran out, and the text stays as it is
+-- the buffer of a clean text goes back to where what is owed begins; or the raw failed, of a buffer that stood elsewhere, or memory ran out,
+-- and the text stays as it is
 abbrev pub BackOutcome : WrittenView → Result (Unit {0}) IoFault → WrittenView → Type 0
 BackOutcome old (Ok done) new = GoesBack old new
-BackOutcome old (Err fault.RawFault) new = HandsOn old false true new × (new.life ≡ life.Failed)
+BackOutcome old (Err fault.RawFault) new = HandsOn old false true new × (new.life ≡ life.Failed) × (old.text.at ≢ old.text.buffer.place)
 BackOutcome old (Err fault.NoMemory) new = HandsOn old false false new × (new.life ≡ life.Live)
 BackOutcome old (Err other) new = ⊥
 
