@@ -26,8 +26,9 @@ use std::marker::Model;
 /// hasn't decoded. Of those that were decoded it has the last, from a base on, a boundary between items, and it counts the
 /// characters that were given since; so where the text stands is told by what is in hand. While no character was given
 /// since it was made or cleared, the base is where it began, and all can be read anew by other settings. The base moves
-/// on with what is given, so that what is in hand doesn't grow with the stream. Where the text was put inside an item, the
-/// base is behind that item, and the first of the known characters, the front, stand before the base.
+/// on with what is given, so that what is in hand doesn't grow with the stream, but over bytes that give no character, and
+/// over CR alone under the universal rule. Where the text was put inside an item, the base is behind that item, and the first
+/// of the known characters, the front, stand before the base.
 ///
 /// Contracts see the settings, the known characters, whether a CR is held behind them (under the universal rule, until
 /// the next character releases it), how many of them stand before the base, the bytes that were decoded since the base, the
@@ -395,9 +396,9 @@ impl HeldText {
 
     /// Where the text stands, by the bytes from the base on. Where a decoding knew that none come behind those in hand, it is what the text
     /// tells where none do; else it is that, whatever comes behind them, since these bytes surely give as many characters as were given since
-    /// the base. Each of them is read once, or twice, and those that an earlier call read aren't read again: it goes on from where that one
-    /// came to. As long as known characters stand before the base, none was given since, and the base is told, which isn't where the text
-    /// stands: the layer above tells that. It takes no memory.
+    /// the base. Each of them is read once, or twice, and those that an earlier call read aren't read again, but for the last few once a
+    /// decoding knew that none come: it goes on from where that one came to. As long as known characters stand before the base, none was
+    /// given since, and the base is told, which isn't where the text stands: the layer above tells that. It takes no memory.
     pub fn tell(&mut self) -> Told
         ensures told { IsToldAmong self.old.encoding self.old.handler self.old.newline self.old.ended (base_of self.old) self.old.given (whole_of self.old) result }
         ensures sure { self.old.ended ≡ false → self.old.given ≤ length (surely_given self.old.encoding self.old.handler self.old.newline false (whole_of self.old)) }

@@ -455,7 +455,7 @@ pub record Answers (before : TextState) (call : TextFileCall) (reply : FileReply
   pub stands : StandsWhileLive before.text.buffer → StandsWhileLive after.text.buffer
   -- where the raw tells, the call is a step of the model
   pub told : WhereShown before.text.buffer (TextFileStep (file_of before) call reply after.short (says_fault reply) (file_of after))
-  -- a reading asks for no chunk that it needn't
+  -- a reading brings its buffer no further than a chunk that it needed
   pub needs : gives_text call ≡ true → ReadsNoFurther before call after
   -- and over a buffer that doesn't write it asks for no byte twice, whether the raw tells its bytes or not
   pub brings : gives_text call ≡ true → ReadsOn before.text.buffer after.text.buffer

@@ -1,6 +1,6 @@
 //! The text over a buffered stream: it asks for chunks, decodes what it has in hand, and answers from the characters that it knows. It holds
 //! what an answer has and a chunk behind it: of a `read` of all the whole rest, also where that is refused. It holds the
-//! bytes of what it knows, too, and of the last characters that it gave.
+//! bytes of what it knows, too, and of the last characters that it gave, and those that gave none since.
 ghost use Rattle.std.specs.Prelude.{◌≡◌, ℕ, ℤ, List, Bool, ◌<◌, ◌≤◌, ◌+◌, ◌||◌, true, false, [], length, take, drop, pos, None, OnErr, IfOk, IfErr, IfSome, MatchResult};
 ghost use Rattle.py_flat.specs.Calls as binary;
 ghost use Rattle.py_flat.specs.Calls.{Write};

@@ -190,8 +190,8 @@ fn spot_among(
 ///
 /// The bytes are read from where a walk came to before, `from` (`Walked::default()` where none did): runs of ASCII without CR at once, and
 /// anything else one character or one refused range at a time. How far this walk came is answered beside the place: the next one goes on
-/// from there, also where bytes come behind these and more characters are given. Where none come behind them (`last`), the walk was right
-/// for their end alone, and `from` itself is answered.
+/// from there, also where bytes come behind these and more characters are given. Where none come behind them (`last`) they are walked as if
+/// some might, and what is left from there as the last: that walk was right for their end alone, and how far it came isn't answered.
 pub fn told_among(
     encoding: Encoding,
     handler: Handler,
@@ -211,9 +211,12 @@ pub fn told_among(
     ensures within { IsTold result.0 }
     ensures walked { IsWalked encoding handler newline bytes.now given result.1 }
 {
-    let (told, walked) = spot_among(encoding, handler, newline, bytes, place, given, from, last);
-    if last {
-        return (told, from);
+    let (told, walked) = spot_among(encoding, handler, newline, bytes, place, given, from, false);
+    if !last {
+        return (told, walked);
     }
+    let (told, _) = spot_among(
+        encoding, handler, newline, bytes, place, given, walked, last,
+    );
     (told, walked)
 }
