@@ -159,6 +159,11 @@ fn forged(numbers: &mut Numbers, told: TextIOCookie) -> [u8; 26] {
     }
 }
 
+/// Whether some bytes are those of a cookie that was told.
+fn is_told(told: TextIOCookie, bytes: &[u8]) -> bool {
+    told.build().is_some_and(|built| built.as_slice() == bytes)
+}
+
 /// Puts both where a cookie says, asks them where they stand, and reads all.
 fn seek_by<B: BufferedStream>(
     alloc: Global,
@@ -206,6 +211,9 @@ pub(crate) fn seek_forged<B: BufferedStream>(
         let cookie = forged(numbers, told);
         let length = LENGTHS[numbers.next() % LENGTHS.len()].min(cookie.len());
         let whence = WHENCES[numbers.next() % WHENCES.len()];
+        if whence == 0 && !is_told(told, &cookie[..length]) {
+            counts.count_forged();
+        }
         if !seek_by(alloc, text, plain, &cookie[..length], whence, counts) {
             return Err(anyhow!("{told:?} {cookie:?} {length} {whence}"));
         }

@@ -49,5 +49,11 @@ fn main(rt: HostRuntime) -> Result<()> {
     for which in SEEKINGS {
         print_counts(&rt, which.name(), put_each(rt.alloc(), which)?)?;
     }
-    print_counts(&rt, "8 forged cookies each", put_by_forged(rt.alloc())?)
+    let counts = put_by_forged(rt.alloc())?;
+    print_counts(&rt, "8 forged cookies each", counts)?;
+    println!(rt;
+        "{} seeks to other bytes than those of the told cookie",
+        counts.forged
+    )?;
+    Ok(())
 }

@@ -37,6 +37,8 @@ pub(crate) struct Counts {
     pub seeks: u64,
     /// Of these, those that skip characters.
     pub inside: u64,
+    /// Seeks to bytes that aren't those of the told cookie.
+    pub forged: u64,
     /// Seeks whose arguments were refused.
     pub invalid: u64,
     /// Seeks whose skipped characters aren't those of one range there.
@@ -56,12 +58,18 @@ impl Counts {
             tells: 0,
             seeks: 0,
             inside: 0,
+            forged: 0,
             invalid: 0,
             unfit: 0,
             waits: 0,
             waits_of_seeks: 0,
             faults: 0,
         }
+    }
+
+    /// Counts a seek to a cookie that was forged.
+    pub(crate) fn count_forged(&mut self) {
+        self.forged = self.forged.saturating_add(1);
     }
 
     /// Counts a reading or a write.
