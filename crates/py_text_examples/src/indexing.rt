@@ -6,7 +6,7 @@ use py_flat::IoFault;
 use py_stream::BufferedStream;
 use py_text::{Coder, Encoding, Handler};
 use py_textio::TextIOWrapper;
-use std::alloc::Global;
+use std::alloc::{AllocError, Global};
 
 /// Goes on with an index of a log: the cookies at which its lines begin. The last line is read anew, since it may have been half a line.
 fn go_on<B: BufferedStream>(
@@ -44,6 +44,28 @@ fn line_of<B: BufferedStream>(
     log.readline(alloc, None)
 }
 
+/// The bytes that an index is kept as between two runs, in a file or elsewhere: 25 for each cookie.
+fn kept(alloc: Global, index: &[[u8; 25]]) -> Result<Vec<u8>, AllocError> {
+    let mut bytes = Vec::new(alloc);
+    for cookie in index {
+        bytes.extend_from_slice(&cookie[..])?;
+    }
+    Ok(bytes)
+}
+
+/// The index that was kept as some bytes; a cookie that was kept in part is left out.
+fn found(alloc: Global, bytes: &[u8]) -> Result<Vec<[u8; 25]>, AllocError> {
+    let mut index = Vec::new(alloc);
+    for part in bytes.chunks(25) {
+        let mut cookie = [0; 25];
+        if part.len() == cookie.len() {
+            cookie.copy_from_slice(part);
+            index.push(cookie)?;
+        }
+    }
+    Ok(index)
+}
+
 /// A run of the indexer over the bytes that a log has by then.
 fn run(alloc: Global, bytes: &[u8], index: &mut Vec<[u8; 25]>) -> Result<()> {
     let mut log = text_of(alloc, bytes, &[], STRICT)?;
@@ -66,6 +88,8 @@ pub(crate) fn indexed(alloc: Global) -> Result<String> {
     let mut index = Vec::new(alloc);
     run(alloc, "één\r\ntwee\r\ndr".as_bytes(), &mut index)?; // three lines, of which one is half
     let first = index.len();
+    let bytes = kept(alloc, &index)?; // 75 of them
+    let mut index = found(alloc, &bytes)?; // after a restart
     let grown = "één\r\ntwee\r\ndrie\r\nvier\r\n".as_bytes();
     run(alloc, grown, &mut index)?; // four: "dr" was read anew
     let third = look_up(alloc, grown, &index, 2)?; // Some("drie\n")
