@@ -328,6 +328,12 @@ reached_known session is =
       known = run_tells is.opened is.calls is.replies session is.run tell (opened_tells is.plan.kind is.plan.mode is.raw is.opened is.planned is.opens);
     }
 
+pub reached_stands : (now : TextState) → IsReached (TextSession now) → now.text.life ≡ life.Live → StandsInText (state.file_of now)
+reached_stands now is live = ((reached_known (TextSession now) is).known live).stands
+
+pub reached_order : (now : TextState) → IsReached (TextSession now) → now.text.life ≡ life.Live → (state.file_of now).place.order ≡ Unknown
+reached_order now is live = ((reached_known (TextSession now) is).known live).none
+
 -- a text as another has it that is read by the same rules: with that one's abilities, size of chunks and ways of writing
 abbrev had_by : TextFile → TextFile → TextFile
 had_by other file = record file { can = other.can; settings = record other.settings { encoding = file.settings.encoding; handler = file.settings.handler; newline = file.settings.newline } }

@@ -9,7 +9,9 @@ ghost use Rattle.py_plain_text.specs.TextFile.{TextFile};
 ghost use Rattle.py_plain_text.specs.declared.text_cookie.TextIOCookie.{TextIOCookie};
 ghost use Rattle.py_plain_text.specs.Cookie.{cookie_bytes};
 ghost use Rattle.py_plain_text.specs.CookieView.{cookie_shown};
-ghost use Rattle.py_read_text.specs.TextState.{TextState};
+ghost use Rattle.py_plain_text.specs.CookieLaws.{StandsInText};
+ghost use Rattle.py_plain.specs.Units.{Unknown};
+ghost use Rattle.py_read_text.specs.TextState.{TextState, file_of};
 ghost use Rattle.py_raw.specs.RawStream.{Raw, Keeps, AnswersFor, tells};
 ghost use Rattle.py_stream.specs.Answers.{ClosedWith};
 ghost use Rattle.py_calls.specs.declared.call.Call.{Call};
@@ -87,6 +89,15 @@ pub fn a_calm_history_settles()
 pub fn a_run_reaches_its_sessions()
     ensures opened { (raw : Raw) (plan : OpenPlan) (session : SessionView) → IsTrue (tells raw) → IsPlanned plan → OpensSession raw plan session → IsReached session }
     ensures kept { (before : SessionView) (calls : List Call) (replies : List Reply) (after : SessionView) → IsReached before → IsRun before calls replies after → IsReached after }
+{}
+
+/// A live text that was reached stands where a cookie tells, and no order of its bytes was read. So what `py_plain_text` and `py_text_laws` say
+/// of texts that stand so holds of it, as it is the text of a session: the cookie that it tells feeds four bytes at most, skips only inside
+/// the one item that these are, and is the least boundary that gives what is left, where there is one (`told_places_give_the_rest`); and what
+/// is written there is sought and read again (`a_written_text_is_sought_and_read`).
+pub fn a_reached_text_stands_where_it_tells()
+    ensures stands { (now : TextState) → IsReached (TextSession now) → now.text.life ≡ life.Live → StandsInText (file_of now) }
+    ensures order { (now : TextState) → IsReached (TextSession now) → now.text.life ≡ life.Live → (file_of now).place.order ≡ Unknown }
 {}
 
 /// A text goes back to where it told. Two sessions over raws that tell, of any modes, or one session at two times, have texts of the same
