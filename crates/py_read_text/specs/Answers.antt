@@ -174,10 +174,15 @@ PlaceMoves call short reply before end after = after ≡ before
 abbrev pub further : TextPlace → ℕ → TextPlace
 further place count = record place { at = place.at + count }
 
--- the raw failed in a write of n bytes: the text stands behind them all, or as it was where its buffer was read ahead of it, and so had to
--- go back first
+-- the buffer was read ahead of a text that is written, and didn't go back to it
+pub record StaysAhead (before after : TextOver Buffer) : Type 0 where
+  pub ahead : behind_own before ≢ before.place.at
+  pub still : behind_own after ≡ behind_own before
+  pub place : after.place ≡ before.place
+
+-- the raw failed in a write of n bytes: the text stands behind them all, or as it was, where its buffer had to go back first and failed to
 abbrev pub FaultMoves : ℕ → TextOver Buffer → TextOver Buffer → Type 0
-FaultMoves count before after = (after.place ≡ further before.place count) ⊎ ((behind_own before ≢ before.place.at) × (after.place ≡ before.place))
+FaultMoves count before after = (after.place ≡ further before.place count) ⊎ StaysAhead before after
 
 -- a write of n bytes ran out of memory: the text lives on and stands as it was, or failed and stands behind them all
 abbrev pub MemoryMoves : ℕ → TextOver Buffer → TextOver Buffer → Type 0

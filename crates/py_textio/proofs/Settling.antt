@@ -26,7 +26,7 @@ use Rattle.py_plain_text.specs.TextCalls.{TextFileCall}
 use Rattle.py_read_text.specs.TextState.{TextState}
 use Rattle.py_read_text.specs.Answers.{further, Answers}
 use Rattle.py_read_text.specs.Knowing.{TextView, place_of, over_of as read_of, state_of as read_state}
-use Rattle.py_read_text.specs.Owing.{all_owed, IsJoined, PassesOwed, own_from, stream_from, FailedWithOwn, all_from, LaysFront, LaysOwed}
+use Rattle.py_read_text.specs.Owing.{all_owed, behind_own, IsJoined, PassesOwed, own_from, stream_from, FailedWithOwn, all_from, LaysFront, LaysOwed}
 use Rattle.py_read_text.specs.Reading.{KeepsPlace}
 use Rattle.py_read_text.specs.Writing.{unit_of, StandsBehind, LeavesFlat, ReturnOutcome}
 use Rattle.py_raw.proofs.Telling.{keeps_same, tells_still}
@@ -348,7 +348,7 @@ written_back old new pending before after faulted is live place there leaves wri
 
 pub not_back : (now : WrittenView) (old new : TextView) (pending : List ℕ) (room more : ℕ) (before after : Life) (why : IoFault) → view_of old pending room before ≡ now → IsWritten old pending before → now.life ≡ life.Live → KeepsPlace old new → ReturnOutcome old (Err why) new → after ≡ new.buffer.life → BackOutcome now (Err why) (view_of new pending more after)
 not_back now old new pending room more before after fault.RawFault same is live place outcome current =
-    (subst (λ (view : WrittenView). HandsOn view false true (view_of new pending more after)) same (hands_back old new pending room more before after true is place (inr outcome.1) outcome.0 (is.lives (ap (λ (view : WrittenView). view.life) same ∙ live))), current ∙ outcome.0.life_is, subst (λ (view : WrittenView). view.text.at ≢ view.text.buffer.place) same outcome.2)
+    (subst (λ (view : WrittenView). HandsOn view false true (view_of new pending more after)) same (hands_back old new pending room more before after true is place (inr outcome.1) outcome.0 (is.lives (ap (λ (view : WrittenView). view.life) same ∙ live))), current ∙ outcome.0.life_is, subst (λ (view : WrittenView). view.text.at ≢ view.text.buffer.place) same outcome.2, ap (λ (at : ℕ). at + length pending) outcome.1 ∙ ap (λ (view : WrittenView). behind_own (over_of view)) same)
 not_back now old new pending room more before after fault.NoMemory same is live place outcome current =
     (subst (λ (view : WrittenView). HandsOn view false false (view_of new pending more after)) same (hands_back old new pending room more before after false is place (inr outcome.1) outcome.0 (is.lives (ap (λ (view : WrittenView). view.life) same ∙ live))), current ∙ (outcome.0.life_is ∙ is.lives (ap (λ (view : WrittenView). view.life) same ∙ live)))
 not_back now old new pending room more before after other same is live place outcome current = absurd outcome

@@ -30,7 +30,7 @@ use Rattle.py_read_text.specs.Knowing.{place_of}
 use Rattle.py_read_text.proofs.Placing.{not_far}
 use Rattle.py_read_text.specs.Owing.{all_owed, behind_own, IsJoined, PassesOwed, OwesOn, own_from, HasOwn, has_line_end, flushes_behind, GaveOwn, StopsOwing, all_from, LaysFront, LaysOwed}
 use Rattle.py_read_text.proofs.Owing.{passes_then, passes_behind, owes_none, open_then, owing_open}
-use Rattle.py_read_text.specs.Answers.{further, IsPassedOn, KeepsFew, HoldsBack, WritesAll, TextHolds, Answers}
+use Rattle.py_read_text.specs.Answers.{further, StaysAhead, IsPassedOn, KeepsFew, HoldsBack, WritesAll, TextHolds, Answers}
 use Rattle.py_textio.specs.Written.{WrittenView, behind_owed, place_now, over_of, state_of, file_now, HandsOnBut, HandsOn, TookText, IsKept, StandsToWrite, GoesBack, BackOutcome, LetsGo, HandOutcome, KeepsOwed, HandsOnOnce, TookPending}
 use Rattle.py_textio.proofs.Ended.{ended-some}
 use Rattle.py_textio.proofs.Refusing.{refused}
@@ -268,12 +268,8 @@ or_false : (own : Bool) → own ≡ true → own || false ≡ true
 or_false true is = refl
 or_false false is = absurd (cc)
 
--- a text whose buffer doesn't stand where what it owes begins was read ahead
-ahead_so : (view : WrittenView) → view.text.at ≢ view.text.buffer.place → behind_own (over_of view) ≢ (place_now view).at
-ahead_so view apart = λ same. apart (omega (arith, same, ap (λ (place : TextPlace). place.at) (behind_so (place_of view.text) view.pending)))
-
-pub unwritten_failed : (old new : WrittenView) (text : List ℕ) → MayWrite old text → HandsOn old false true new → new.life ≡ life.Failed → old.text.at ≢ old.text.buffer.place → IsJoined (over_of new) → Answers (state_of old false) (WriteText text) (Refused fault.RawFault) (state_of new false)
-unwritten_failed old new text may hands failed apart joined =
+pub unwritten_failed : (old new : WrittenView) (text : List ℕ) → MayWrite old text → HandsOn old false true new → new.life ≡ life.Failed → StaysAhead (over_of old) (over_of new) → IsJoined (over_of new) → Answers (state_of old false) (WriteText text) (Refused fault.RawFault) (state_of new false)
+unwritten_failed old new text may hands failed stays joined =
     answers_work old (WriteText text) (Refused fault.RawFault) new false (record {
       accepted = may.accepted;
       once = refl;
@@ -285,7 +281,7 @@ unwritten_failed old new text may hands failed apart joined =
       settings = hands.settings;
       life_is = failed;
       place = tt;
-      written = inr (ahead_so old apart, hands.place);
+      written = inr stays;
       lines = tt;
       blames = tt;
       seeks = tt;
@@ -533,8 +529,12 @@ written_all old mid new text room count chars may back counts outcome keeps once
 hands_given : (old new : WrittenView) (given : List ℕ) (waited faulted : Bool) → HandsOn old waited faulted new → HandsOnBut given old waited faulted new
 hands_given old new given waited faulted hands = record { calls = hands.calls; bytes = hands.bytes; place = hands.place; settings = hands.settings; owes = hands.owes; lays = lays_given (over_of old) given (over_of new) hands.lays; stays = hands.stays }
 
+-- a buffer that doesn't stand where what is owed begins was read ahead
+ahead_so : (view : WrittenView) → view.text.at ≢ view.text.buffer.place → behind_own (over_of view) ≢ (place_now view).at
+ahead_so view apart = λ same. apart (omega (arith, same, ap (λ (place : TextPlace). place.at) (behind_so (place_of view.text) view.pending)))
+
 pub written_not : (old new : WrittenView) (text : List ℕ) (why : IoFault) → MayWrite old text → BackOutcome old (Err why) new → IsJoined (over_of new) → Answers (state_of old false) (WriteText text) (Refused why) (state_of new (says_wait (Refused why)))
-written_not old new text fault.RawFault may outcome joined = unwritten_failed old new text may outcome.0 outcome.1 outcome.2 joined
+written_not old new text fault.RawFault may outcome joined = unwritten_failed old new text may outcome.0 outcome.1 (record { ahead = ahead_so old outcome.2; still = outcome.3; place = outcome.0.place }) joined
 written_not old new text fault.NoMemory may outcome joined = unwritten_starved old new text may (hands_given old new (own_bytes old text) false false outcome.0) outcome.1 joined
 written_not old new text other may outcome joined = absurd outcome
 

@@ -22,7 +22,7 @@ use Rattle.py_stream.specs.Writing.{IsFull}
 use Rattle.py_stream.specs.Buffer.{Buffer, WhereShown, flat_of, size_shown, stream_shown, AnswersAsBuffer, KeepsBuffer}
 use Rattle.py_read_text.specs.TextState.{TextState, file_of}
 use Rattle.py_read_text.specs.Knowing.{TextView, place_of, over_of as read_of, IsClean}
-use Rattle.py_read_text.specs.Owing.{all_owed, IsJoined, PassesOwed, LaysOwed, FailedWithOwn, GaveOwn, StopsOwing, KeepsOpen}
+use Rattle.py_read_text.specs.Owing.{all_owed, behind_own, IsJoined, PassesOwed, LaysOwed, FailedWithOwn, GaveOwn, StopsOwing, KeepsOpen}
 use Rattle.py_read_text.specs.Answers.{further, StandsWhileLive, IsPassedOn, KeepsFew, TellsWithin}
 
 -- the text that reads; the bytes that were written and that its buffer hasn't, with room for more; and its life
@@ -182,11 +182,11 @@ pub record GoesBack (old new : WrittenView) : Type 0 where
   pub stands : StandsToWrite new.text
   pub still : old.text.at ≡ old.text.buffer.place → new.text.buffer ≡ old.text.buffer
 
--- the buffer of a clean text goes back to where what is owed begins; or the raw failed, of a buffer that stood elsewhere, or memory ran out,
--- and the text stays as it is
+-- the buffer of a clean text goes back to where what is owed begins; or the raw failed, of a buffer that stood elsewhere and stands there
+-- still, or memory ran out, and the text stays as it is
 abbrev pub BackOutcome : WrittenView → Result (Unit {0}) IoFault → WrittenView → Type 0
 BackOutcome old (Ok done) new = GoesBack old new
-BackOutcome old (Err fault.RawFault) new = HandsOn old false true new × (new.life ≡ life.Failed) × (old.text.at ≢ old.text.buffer.place)
+BackOutcome old (Err fault.RawFault) new = HandsOn old false true new × (new.life ≡ life.Failed) × (old.text.at ≢ old.text.buffer.place) × (behind_own (over_of new) ≡ behind_own (over_of old))
 BackOutcome old (Err fault.NoMemory) new = HandsOn old false false new × (new.life ≡ life.Live)
 BackOutcome old (Err other) new = ⊥
 
