@@ -28,6 +28,8 @@ fn main(rt: HostRuntime) -> Result<()> {
     print(&rt, waits::written_over_waits(alloc))?;
     print(&rt, places::replaced(alloc))?;
     print(&rt, places::among(alloc))?;
+    print(&rt, places::lent(alloc))?;
+    print(&rt, places::rewritten(alloc))?;
     print(&rt, places::refused(alloc))?;
     print(&rt, faults::failed(alloc))?;
     print(&rt, faults::waited(alloc))?;
@@ -41,5 +43,6 @@ fn main(rt: HostRuntime) -> Result<()> {
     print(&rt, lines::of_text(alloc))?;
     print(&rt, lines::kept(alloc))?;
     print(&rt, lines::lent(alloc))?;
-    print(&rt, formatting::formatted(alloc))
+    print(&rt, formatting::formatted(alloc))?;
+    print(&rt, formatting::told(alloc))
 }

@@ -1,7 +1,7 @@
 //! Bytes in memory, by std's calls.
 use anyhow::Result;
 use py_adapters::StdStream;
-use py_buffered::{BufferedRandom, BufferedReader};
+use py_buffered::{BufferedRandom, BufferedReader, BufferedWriter};
 use py_memio::BytesIO;
 use py_raw::RawFlags;
 use py_raw_memory::MemRaw;
@@ -59,6 +59,60 @@ fn lent_among(
 fn shown_among(alloc: Global, places: io::Result<(u64, u64)>, space: &[u8]) -> Result<String> {
     let (back, end) = places?;
     Ok(format!(in alloc; "among: {back} {end} {space:?}")?)
+}
+
+/// A stream that is read and written lends what it holds, before and behind what it owes.
+pub(crate) fn lent(alloc: Global) -> Result<String> {
+    let flags = RawFlags::able(true, true, true);
+    let bytes = b"one two".to_vec(alloc)?;
+    let raw = MemRaw::new(bytes, flags, Vec::new(alloc), Vec::new(alloc));
+    let mut stream = StdStream::new(BufferedRandom::new(alloc, raw, 4)?);
+    let counts = lent_lent(&mut stream);
+    shown_lent(alloc, counts)
+}
+
+/// The calls of `lent`, of a stream that is lent.
+fn lent_lent(stream: &mut StdStream<BufferedRandom<MemRaw>>) -> io::Result<(usize, usize, u64)> {
+    let first = stream.fill_buf()?.len(); // 4 are held
+    stream.consume(1);
+    stream.write_all(b"N")?; // owed, where the second of them was
+    let behind = stream.fill_buf()?.len(); // 2
+    stream.consume(9); // past these, and no further
+    Ok((first, behind, stream.stream_position()?))
+}
+
+/// How many bytes were lent first, and behind what was written, and where the stream stood in the end.
+fn shown_lent(alloc: Global, counts: io::Result<(usize, usize, u64)>) -> Result<String> {
+    let (first, behind, place) = counts?;
+    Ok(format!(in alloc; "lent: {first} bytes, {behind} behind one that is owed, then at {place}")?)
+}
+
+/// A stream that is written is moved, and written over.
+pub(crate) fn rewritten(alloc: Global) -> Result<String> {
+    let flags = RawFlags::able(false, true, true);
+    let raw = MemRaw::new(Vec::new(alloc), flags, Vec::new(alloc), Vec::new(alloc));
+    let mut stream = StdStream::new(BufferedWriter::new(alloc, raw, 8)?);
+    let places = lent_rewritten(&mut stream);
+    let same = match stream.stream().raw() {
+        Some(raw) => raw.bytes_of() == b"oNe".as_slice(),
+        None => false,
+    };
+    shown_rewritten(alloc, places, same)
+}
+
+/// The calls of `rewritten`, of a stream that is lent.
+fn lent_rewritten(stream: &mut StdStream<BufferedWriter<MemRaw>>) -> io::Result<(u64, u64)> {
+    stream.write_all(b"one")?;
+    let back = stream.seek(SeekFrom::Current(-2))?; // which passes on what is owed
+    stream.write_all(b"N")?;
+    let end = stream.seek(SeekFrom::End(0))?;
+    Ok((back, end))
+}
+
+/// Where the stream was moved to, and whether the raw has what was written.
+fn shown_rewritten(alloc: Global, places: io::Result<(u64, u64)>, same: bool) -> Result<String> {
+    let (back, end) = places?;
+    Ok(format!(in alloc; "rewritten at {back} of {end}: {same}")?)
 }
 
 /// What refuses a write of a reader, and a seek past every place.
