@@ -7,7 +7,7 @@ use py_buffered::{BufferedReader, BufferedWriter};
 use py_memio::BytesIO;
 use py_raw::RawFlags;
 use py_raw_memory::{Cut, MemRaw};
-use std::alloc::Global;
+use std::alloc::{AllocError, Global};
 use std::io;
 use std::io::{Read, Write};
 
@@ -105,15 +105,23 @@ pub(crate) fn moved(alloc: Global) -> Result<String> {
     shown_copy(alloc, count, is_table(writer.stream().raw()))
 }
 
-/// A stream of the table, over a raw that would have blocked after each byte.
-fn waiting_reader(alloc: Global) -> Result<StdStream<BufferedReader<MemRaw>>> {
-    let flags = RawFlags::able(true, false, false); // it can be read
+/// A raw moves one byte of the table at a time, and would have blocked so many times after each.
+fn waiting_plan(alloc: Global, waits: usize) -> Result<Vec<Cut>, AllocError> {
     let mut plan = Vec::new(alloc);
     for _ in TABLE {
         plan.push(Cut::Take(1))?;
-        plan.push(Cut::Wait)?;
+        for _ in 0..waits {
+            plan.push(Cut::Wait)?;
+        }
     }
-    let raw = MemRaw::new(TABLE.to_vec(alloc)?, flags, plan, Vec::new(alloc));
+    Ok(plan)
+}
+
+/// A stream of the table, over a raw that would have blocked after each byte.
+fn waiting_reader(alloc: Global) -> Result<StdStream<BufferedReader<MemRaw>>> {
+    let flags = RawFlags::able(true, false, false); // it can be read
+    let (bytes, plan) = (TABLE.to_vec(alloc)?, waiting_plan(alloc, 1)?);
+    let raw = MemRaw::new(bytes, flags, plan, Vec::new(alloc));
     Ok(StdStream::new(BufferedReader::new(alloc, raw, 8)?))
 }
 
@@ -160,13 +168,12 @@ fn is_record(row: &ByteRecord, name: &[u8], count: &[u8]) -> bool {
 /// A stream to a raw that moves one byte at a time, and would have blocked twice after each.
 fn waiting_writer(alloc: Global) -> Result<StdStream<BufferedWriter<MemRaw>>> {
     let flags = RawFlags::able(false, true, false); // it can be written
-    let mut plan = Vec::new(alloc);
-    for _ in TABLE {
-        plan.push(Cut::Take(1))?;
-        plan.push(Cut::Wait)?;
-        plan.push(Cut::Wait)?;
-    }
-    let raw = MemRaw::new(Vec::new(alloc), flags, plan, Vec::new(alloc));
+    let raw = MemRaw::new(
+        Vec::new(alloc),
+        flags,
+        waiting_plan(alloc, 2)?,
+        Vec::new(alloc),
+    );
     Ok(StdStream::new(BufferedWriter::new(alloc, raw, 8)?))
 }
 

@@ -1,4 +1,4 @@
-//! Cookies that no text told.
+//! Cookies at random, of which most weren't told by the text.
 use crate::numbers::Numbers;
 use crate::steps::{Counts, read, seek, tell};
 use anyhow::{Result, anyhow};
@@ -159,11 +159,6 @@ fn forged(numbers: &mut Numbers, told: TextIOCookie) -> [u8; 26] {
     }
 }
 
-/// Whether some bytes are those of a cookie that was told.
-fn is_told(told: TextIOCookie, bytes: &[u8]) -> bool {
-    told.build().is_some_and(|built| built.as_slice() == bytes)
-}
-
 /// Puts both where a cookie says, asks them where they stand, and reads all.
 fn seek_by<B: BufferedStream>(
     alloc: Global,
@@ -195,7 +190,7 @@ fn read_some<B: BufferedStream>(
     tell(alloc, text, plain, counts)
 }
 
-/// Puts both where cookies say that are forged, each once a few characters were read.
+/// Puts both where cookies at random say, each once a few characters were read, and counts those that aren't the told one.
 pub(crate) fn seek_forged<B: BufferedStream>(
     alloc: Global,
     text: &mut TextIOWrapper<B>,
@@ -211,7 +206,7 @@ pub(crate) fn seek_forged<B: BufferedStream>(
         let cookie = forged(numbers, told);
         let length = LENGTHS[numbers.next() % LENGTHS.len()].min(cookie.len());
         let whence = WHENCES[numbers.next() % WHENCES.len()];
-        if whence == 0 && !is_told(told, &cookie[..length]) {
+        if whence == 0 && TextIOCookie::parse(&cookie[..length]) != Some(told) {
             counts.count_forged();
         }
         if !seek_by(alloc, text, plain, &cookie[..length], whence, counts) {

@@ -50,10 +50,7 @@ fn main(rt: HostRuntime) -> Result<()> {
         print_counts(&rt, which.name(), put_each(rt.alloc(), which)?)?;
     }
     let counts = put_by_forged(rt.alloc())?;
-    print_counts(&rt, "8 forged cookies each", counts)?;
-    println!(rt;
-        "{} seeks to other bytes than those of the told cookie",
-        counts.forged
-    )?;
+    print_counts(&rt, "8 cookies each", counts)?;
+    println!(rt; "{} of these cookies aren't the told one", counts.forged)?;
     Ok(())
 }

@@ -19,7 +19,7 @@ use py_text_trials::{Asking, Came, ENCODINGS, HANDLERS, RULES, TELLING, failing,
 use py_textio::TextIOWrapper;
 use std::alloc::{AllocError, Global};
 
-/// How many texts are put where forged cookies say, eight each: of more than a million of these, by whence 0, none is the told one.
+/// How many texts are put where cookies at random say, eight each: more than a million of these, by whence 0, aren't the told one.
 const FORGED: usize = 175_000;
 
 /// How many transfers of a raw go by a plan that waits; past them all is moved.

@@ -37,7 +37,7 @@ pub(crate) struct Counts {
     pub seeks: u64,
     /// Of these, those that skip characters.
     pub inside: u64,
-    /// Seeks to bytes that aren't those of the told cookie.
+    /// Seeks to other cookies than the told one.
     pub forged: u64,
     /// Seeks whose arguments were refused.
     pub invalid: u64,
