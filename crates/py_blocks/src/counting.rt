@@ -52,24 +52,19 @@ pub(crate) fn is_start(byte: u8) -> bool
     byte < 0x80 || byte >= 0xC0
 }
 
-/// How many of fewer bytes than a block begin a character: they are looked at at once, as a block whose rest begins none.
+/// How many of some bytes begin a character, one at a time: a few bytes are counted sooner so than copied to a block, which waits for the
+/// copy.
 fn starts_in_few(bytes: &[u8]) -> usize
-    requires { length bytes.now < 16 }
     ensures { result ≡ count_by is_char_start bytes.now }
 {
-    let mut block = [0x80; BLOCK];
-    block[..bytes.len()].copy_from_slice(bytes);
-    starts_in_block(Block::from_array(block))
+    bytes.iter().filter(|byte| is_start(**byte)).count()
 }
 
-/// How many of some bytes begin a character of UTF-8: all but those from 0x80 to 0xBF. Those of fewer than a block are counted at once; of
-/// more, those of ASCII aren't counted, as each begins one, and others a block at a time.
+/// How many of some bytes begin a character of UTF-8: all but those from 0x80 to 0xBF. Those of ASCII aren't counted, as each begins one;
+/// of others whole blocks are counted a block at a time, and what is behind them one at a time.
 pub fn count_starts(bytes: &[u8]) -> usize
     ensures { result ≡ count_by is_char_start bytes.now }
 {
-    if bytes.len() < BLOCK {
-        return starts_in_few(bytes);
-    }
     if bytes.is_ascii() {
         return bytes.len();
     }

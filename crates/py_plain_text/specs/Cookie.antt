@@ -4,7 +4,8 @@ use Rattle.std.specs.Int.{Width, w32, w64, cast_unsigned, cast_signed, to_le_byt
 use Rattle.py_plain.specs.Units.{Order, Unknown, Little, Big}
 
 -- where the text begins, in bytes; the order of a mark that was read; and, of a place inside what stands for a refused range: how many
--- bytes that range has, how many characters are skipped, whether nothing came after it, and how many bytes of UTF-8 are skipped
+-- bytes that range has, how many characters are skipped, whether it is decoded as if nothing came after it, and how many bytes of UTF-8 are
+-- skipped
 pub record Cookie : Type 0 where
   pub start_pos : ℤ
   pub dec_flags : ℤ

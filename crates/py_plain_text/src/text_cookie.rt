@@ -15,7 +15,7 @@ pub struct TextIOCookie {
     pub bytes_to_feed: i32,
     /// How many characters are skipped.
     pub chars_to_skip: i32,
-    /// Whether nothing came after the bytes that are fed.
+    /// Whether the bytes that are fed are decoded as if nothing came after them.
     pub need_eof: bool,
     /// How many bytes of UTF-8 the skipped characters take.
     pub bytes_to_skip: i32,

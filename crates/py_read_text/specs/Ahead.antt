@@ -1,4 +1,4 @@
--- How far a text reads ahead of its answers: no further than the last chunk that it had to ask for, and no byte twice.
+-- How far a text reads ahead of its answers: no further than the last chunk that it had to ask for, and in all no more bytes than it moves forth.
 use Rattle.std.specs.Prelude.{◌≡◌, ℕ, ◌+◌, ◌-◌, ◌<◌, ◌≤◌, ◌⊎◌, max, false, List, [], ◌∷◌, ◌++◌, length, take, Some, None}
 use Rattle.py_flat.specs.Causes.{counted}
 use Rattle.py_flat.specs.Lines.{lf, first_line}
@@ -51,7 +51,7 @@ abbrev pub ReadsNoFurther : TextState → TextFileCall → TextState → Type 0
 ReadsNoFurther before call after = WhereShown before.text.buffer (AsksAsNeeded (file_of before) call before.text.settings.chunk_size (starts_at before) after.text.buffer.place)
 
 -- a buffer that owes nothing and doesn't write was only read from: its raw moved forth, as the buffer counts, by just as many bytes as that
--- raw's reads brought, where it tells its transfers. So nothing was read that the buffer then moved back from
+-- raw's reads brought, where it tells its transfers. So in all nothing was read a second time
 pub record OnlyRead (before after : Buffer) : Type 0 where
   pub forth : before.raw_place ≤ after.raw_place
   pub brought : WhereTransfers before.raw (counted after.raw.reads.brought 0 ≡ counted before.raw.reads.brought (after.raw_place - before.raw_place))

@@ -462,7 +462,7 @@ pub record Answers (before : TextState) (call : TextFileCall) (reply : FileReply
   pub told : WhereShown before.text.buffer (TextFileStep (file_of before) call reply after.short (says_fault reply) (file_of after))
   -- a reading brings its buffer no further than a chunk that it needed
   pub needs : gives_text call ≡ true → ReadsNoFurther before call after
-  -- and over a buffer that doesn't write it asks for no byte twice, whether the raw tells its bytes or not
+  -- and over a buffer that doesn't write it brings in all just the bytes that it moves forth by, whether the raw tells its bytes or not
   pub brings : gives_text call ≡ true → ReadsOn before.text.buffer after.text.buffer
   -- a wait hides nothing, where the text itself owes nothing
   pub hides : IsTrue after.short → gives_text call ≡ true → after.text.owed ≡ [] → HidesNothing before after
