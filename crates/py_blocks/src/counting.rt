@@ -1,5 +1,5 @@
 //! A text in UTF-8, and how many characters it has: as many as its bytes that begin one.
-ghost use Rattle.std.specs.Prelude.{◌≡◌, ◌+◌, ◌++◌, ◌<◌, nat_lt, length, chars, IfOk, OnOk};
+ghost use Rattle.std.specs.Prelude.{◌≡◌, ◌++◌, ◌≤◌, length, take, drop, chars, IfOk, OnOk};
 ghost use Rattle.std.specs.Fmt.{is_char_start};
 ghost use Rattle.std.specs.List.{count_by};
 
@@ -9,32 +9,45 @@ use std::simd::Simd;
 /// How many bytes are looked at at once.
 pub(crate) const BLOCK: usize = 16;
 
+/// How many bytes are looked at at once of a few.
+const FEW: usize = 8;
+
+/// From how many bytes on it is tested first whether all are ASCII.
+const MANY: usize = 32;
+
 /// How many bytes are copied before they are counted: few enough that they are still near then.
 const NEAR: usize = 16384;
 
 /// Bytes that are looked at at once.
 pub(crate) type Block = Simd<u8, BLOCK>;
 
-/// How many bytes of a block are below a limit.
-fn count_below(bytes: Block, limit: u8) -> usize
-    requires { length bytes ≡ 16 }
-    ensures { result ≡ count_by (λ byte. nat_lt byte limit) bytes }
-{
-    bytes.simd_lt(Block::splat(limit)).to_bitmask().count_ones() as usize
-}
+/// Bytes that are looked at at once, of a few.
+type Few = Simd<u8, FEW>;
 
-/// How many bytes of a block begin a character: all but those from 0x80 to 0xBF.
+/// How many bytes of a block begin a character: all but those from 0x80 to 0xBF, which are those below 0x40 once 0x80 is added to each, past
+/// 0xFF from 0 on.
 pub(crate) fn starts_in_block(bytes: Block) -> usize
     requires { length bytes ≡ 16 }
     ensures { result ≡ count_by is_char_start bytes }
 {
-    BLOCK - count_below(bytes, 0xC0) + count_below(bytes, 0x80)
+    let others = (bytes + Block::splat(0x80)).simd_lt(Block::splat(0x40));
+    BLOCK - others.to_bitmask().count_ones() as usize
 }
 
-/// How many bytes of whole blocks begin a character, and the bytes after those blocks, fewer than a block.
-fn starts_in_blocks(bytes: &[u8]) -> (usize, &[u8])
-    ensures counted { result.0 + count_by is_char_start result.1.now ≡ count_by is_char_start bytes.now }
-    ensures few { length result.1.now < 16 }
+/// How many bytes begin a character of a few, but for the first of them.
+fn starts_behind(bytes: Few, skipped: usize) -> usize
+    requires bytes { length bytes ≡ 8 }
+    requires skipped { skipped ≤ 8 }
+    ensures { result ≡ count_by is_char_start (drop skipped bytes) }
+{
+    let others = (bytes + Few::splat(0x80)).simd_lt(Few::splat(0x40));
+    FEW - skipped - (others.to_bitmask() >> skipped).count_ones() as usize
+}
+
+/// How many bytes of whole blocks begin a character, and the place behind those blocks, fewer than a block before the end.
+fn starts_in_blocks(bytes: &[u8]) -> (usize, usize)
+    ensures counted { result.0 ≡ count_by is_char_start (take result.1 bytes.now) }
+    ensures within { result.1 ≤ length bytes.now }
 {
     let mut count = 0;
     let mut place = 0;
@@ -42,7 +55,7 @@ fn starts_in_blocks(bytes: &[u8]) -> (usize, &[u8])
         count += starts_in_block(Block::from_slice(&bytes[place..]));
         place += BLOCK;
     }
-    (count, &bytes[place..])
+    (count, place)
 }
 
 /// Whether a byte begins a character.
@@ -52,24 +65,38 @@ pub(crate) fn is_start(byte: u8) -> bool
     byte < 0x80 || byte >= 0xC0
 }
 
-/// How many of some bytes begin a character, one at a time: a few bytes are counted sooner so than copied to a block, which waits for the
-/// copy.
-fn starts_in_few(bytes: &[u8]) -> usize
-    ensures { result ≡ count_by is_char_start bytes.now }
+/// How many bytes from a place on begin a character: eight are looked at at once, and the last eight again with those before the place left out.
+fn starts_from(bytes: &[u8], from: usize) -> usize
+    requires some { 8 ≤ length bytes.now }
+    requires within { from ≤ length bytes.now }
+    ensures { result ≡ count_by is_char_start (drop from bytes.now) }
 {
-    bytes.iter().filter(|byte| is_start(**byte)).count()
+    let mut count = 0;
+    let mut place = from;
+    while place + FEW <= bytes.len() {
+        count += starts_behind(Few::from_slice(&bytes[place..]), 0);
+        place += FEW;
+    }
+    let last = bytes.len() - FEW;
+    count + starts_behind(Few::from_slice(&bytes[last..]), place - last)
 }
 
-/// How many of some bytes begin a character of UTF-8: all but those from 0x80 to 0xBF. Those of ASCII aren't counted, as each begins one;
-/// of others whole blocks are counted a block at a time, and what is behind them one at a time.
+/// How many of some bytes begin a character of UTF-8: all but those from 0x80 to 0xBF. Of many bytes those of ASCII aren't counted, as each
+/// begins one.
 pub fn count_starts(bytes: &[u8]) -> usize
     ensures { result ≡ count_by is_char_start bytes.now }
 {
+    if bytes.len() < FEW {
+        return bytes.iter().filter(|byte| is_start(**byte)).count();
+    }
+    if bytes.len() < MANY {
+        return starts_from(bytes, 0);
+    }
     if bytes.is_ascii() {
         return bytes.len();
     }
     let (count, behind) = starts_in_blocks(bytes);
-    count + starts_in_few(behind)
+    count + starts_from(bytes, behind)
 }
 
 /// Appends some bytes, and answers how many of them begin a character.
