@@ -22,4 +22,5 @@ pub use py_codec::IoFault;
 pub use py_plain::Newlines;
 pub use py_telling::Told;
 pub use py_text::Coder;
+pub use reach::FIRST_SIZE;
 pub use wanted::Wanted;

@@ -2,7 +2,7 @@
 //! lines by, and a line of n characters in no more bytes than those have. That is a guess: an LF that no CR comes before, by the rule
 //! of CR LF, and one that a malformed sequence takes in end no line, and then more is wanted the next time; and where a malformed
 //! sequence of UTF-16 has an odd number of bytes the units behind it aren't seen. Where the line is short so are those behind it, as a
-//! rule, and so some of them are decoded with it.
+//! rule, and so some of them are decoded with it, but where no more bytes are in hand than a text asks for where it was put.
 ghost use Rattle.std.specs.Prelude.{◌≤◌, length, IfSome};
 
 use crate::Wanted;
@@ -15,6 +15,10 @@ const LONGEST: usize = 4;
 
 /// How many bytes are decoded at once for short lines.
 const SHARED: usize = 4096;
+
+/// How many bytes a text asks for first where it was put: mostly a line is wanted there, which is shorter. Of so many in hand, or fewer, it is
+/// decoded alone.
+pub const FIRST_SIZE: usize = 512;
 
 /// How many of some bytes are decoded for an answer that wants so many characters.
 pub(crate) fn reach(
@@ -31,6 +35,7 @@ pub(crate) fn reach(
         Wanted::Line(_) => {
             let near = window(bytes, want.saturating_mul(LONGEST));
             match behind_end(encoding, newline, near) {
+                Some(end) if bytes.len() <= FIRST_SIZE => end,
                 Some(end) => end.max(SHARED.min(bytes.len())),
                 None => bytes.len(),
             }

@@ -32,7 +32,7 @@ use crate::looking::{Gathered, look, look_at_end};
 use crate::opening::reading_coder;
 use crate::seeking::{Landing, MOST_FED, go_to, land, skips, start_of};
 use py_flat::{IoFault, Life};
-use py_held_text::{Coder, HeldFront, HeldText, Wanted};
+use py_held_text::{Coder, FIRST_SIZE, HeldFront, HeldText, Wanted};
 use py_plain::Newlines;
 use py_plain_text::TextIOCookie;
 use py_stream::BufferedStream;
@@ -41,9 +41,6 @@ use py_text::{Reconfigure, TextSettings};
 use std::alloc::Global;
 use std::fmt;
 use std::marker::Model;
-
-/// How many bytes are asked for first where a text was put: mostly a line is wanted there, which is shorter.
-const FIRST_SIZE: usize = 512;
 
 /// What a read of the buffer brought.
 #[derive(Clone, Copy)]
