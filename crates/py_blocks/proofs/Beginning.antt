@@ -9,10 +9,11 @@ use Rattle.std.specs.Bool.{MatchBool}
 use Rattle.std.specs.Str.{IsAscii, IsUtf8, chars, encode_utf8_all}
 use Rattle.std.proofs.lemmas.Bool.Decides.{nat_tests}
 use Rattle.std.proofs.Math.Seq.{take-add}
-use native.Mathlib.Nat.{pow-suc, mul_comm, zero-div, div-one, div-div-eq-div-mul}
-use Rattle.std.proofs.lemmas.List.{append_assoc, length-take, length-drop, length-map, drop-map, drop-drop, take_all}
+use native.Mathlib.Nat.{pow-suc, mul_comm, mul_assoc, zero-div, div-one, div-div-eq-div-mul}
+use Rattle.std.proofs.Math.Pow.{pow_mono}
+use Rattle.std.proofs.lemmas.List.{append_assoc, length-append, map-append, length-take, length-drop, length-map, drop-map, drop-drop, take_all}
 use Rattle.std.proofs.lemmas.List.Sums.{sum_by-cons, sum_by-append, sum_by-take-drop, count_by-le-length}
-use Rattle.std.proofs.lemmas.Simd.{bitmask_splat, ones-mask_l, zip2_splat, map-map}
+use Rattle.std.proofs.lemmas.Simd.{bitmask_splat, mask_l-lt, ones-mask_l, zip2_splat, map-map}
 use Rattle.std.proofs.lemmas.Str.{encodes-chars, IsUtf8-from_ascii, chars-IsAscii}
 
 start-count : (b : ℕ) (bytes : List ℕ) → is_char_start b ≡ true → count_by is_char_start (b ∷ bytes) ≡ 1 + count_by is_char_start bytes
@@ -112,6 +113,38 @@ pub count-block-mask : (bytes : List ℕ) (size : ℕ) → length bytes ≡ size
     → count_ones (mask_l (map (top 7) (zip2 (λ a b. cond (ltb a b) 255 0) (zip2 (λ a b. (a + b) % 256) bytes (replicate size 128)) (replicate size 64))) % 2 ^ 64) ≡ count_by is_other bytes
 count-block-mask bytes size long le = ap count_ones (mask-others bytes size long le) ∙ ones-mask_l is_other bytes
 
+-- the mask of some bytes, and behind it that of others
+mask-append : (marks more : List Bool) → mask_l (marks ++ more) ≡ mask_l marks + 2 ^ length marks * mask_l more
+mask-append [] more = omega arith
+mask-append (m ∷ marks) more =
+    let double : 2 ^ suc (length marks) * mask_l more ≡ 2 * (2 ^ length marks * mask_l more) =
+    ap (λ n. n * mask_l more) (pow-suc 2 (length marks) ∙ mul_comm (2 ^ length marks) 2) ∙ mul_assoc 2 (2 ^ length marks) (mask_l more) in
+    omega (arith, mask-append marks more, double)
+
+-- two masks as one, of eight bytes and of those behind some of eight more: no more than sixteen bits
+pub two-masks : (first second : List ℕ) (skipped : ℕ) → length first ≡ 8 → length second ≡ 8
+    → mask_l (map (top 7) (zip2 (λ a b. cond (ltb a b) 255 0) (zip2 (λ a b. (a + b) % 256) first (replicate 8 128)) (replicate 8 64))) % 2 ^ 64
+    + mask_l (map (top 7) (zip2 (λ a b. cond (ltb a b) 255 0) (zip2 (λ a b. (a + b) % 256) second (replicate 8 128)) (replicate 8 64))) % 2 ^ 64 / 2 ^ skipped * 256
+    ≡ mask_l (map is_other (first ++ drop skipped second))
+two-masks first second skipped long also =
+    let behind = ap (λ mask. mask / 2 ^ skipped) (mask-others second 8 also (omega arith)) ∙ mask-drop (map is_other second) skipped ∙ ap mask_l (drop-map is_other skipped second) in
+    let both = ap mask_l (map-append is_other first (drop skipped second)) ∙ mask-append (map is_other first) (map is_other (drop skipped second)) in
+    let eight : 2 ^ length (map is_other first) ≡ 256 = ap (λ n. 2 ^ n) (length-map first is_other ∙ long) in
+    let same : 2 ^ length (map is_other first) * mask_l (map is_other (drop skipped second)) ≡ 256 * mask_l (map is_other (drop skipped second)) = ap (λ n. n * mask_l (map is_other (drop skipped second))) eight in
+    omega (arith, mask-others first 8 long (omega arith), behind, both, same)
+
+pub two-below : (first second : List ℕ) (skipped : ℕ) → length first ≡ 8 → length second ≡ 8 → mask_l (map is_other (first ++ drop skipped second)) < 2 ^ 16
+two-below first second skipped long also =
+    let bytes = first ++ drop skipped second in
+    let size : length (map is_other bytes) ≤ 16 = omega (arith, length-map bytes is_other, length-append first (drop skipped second), length-drop skipped second, long, also) in
+    omega (arith, mask_l-lt (map is_other bytes), pow_mono size)
+
+pub count-two : (first second : List ℕ) (skipped : ℕ) → length first ≡ 8 → length second ≡ 8
+    → count_ones (mask_l (map (top 7) (zip2 (λ a b. cond (ltb a b) 255 0) (zip2 (λ a b. (a + b) % 256) first (replicate 8 128)) (replicate 8 64))) % 2 ^ 64
+    + mask_l (map (top 7) (zip2 (λ a b. cond (ltb a b) 255 0) (zip2 (λ a b. (a + b) % 256) second (replicate 8 128)) (replicate 8 64))) % 2 ^ 64 / 2 ^ skipped * 256)
+    ≡ count_by is_other (first ++ drop skipped second)
+count-two first second skipped long also = ap count_ones (two-masks first second skipped long also) ∙ ones-mask_l is_other (first ++ drop skipped second)
+
 -- and so many of those behind begin one
 pub starts-behind : (bytes : List ℕ) (size skipped : ℕ) → length bytes ≡ size → Each1 (λ b. b < 256) bytes → skipped ≤ size
     → size - skipped ≡ count_by is_char_start (drop skipped bytes) + count_by is_other (drop skipped bytes)
@@ -167,3 +200,16 @@ count-last bytes from place last le before end =
     ap (λ behind. count_by is_char_start (take (place - from) (drop from bytes)) + count_by is_char_start behind)
     (ap (drop (place - last)) all ∙ same-place bytes last place before ∙ sym (same-place bytes from place le))
     ∙ count-from (drop from bytes) (place - from)
+
+-- of sixteen bytes at most the first eight, and of the last eight those behind these
+pub count-ends : (bytes : List ℕ) (last : ℕ) → last + 8 ≡ length bytes → last ≤ 8 → count_by is_char_start (take 8 bytes ++ drop (8 - last) (take 8 (drop last bytes))) ≡ count_by is_char_start bytes
+count-ends bytes last end few =
+    let all : take 8 (drop last bytes) ≡ drop last bytes = take_all 8 (drop last bytes) (omega (arith, length-drop last bytes)) in
+    sum_by-append (λ x. cond (is_char_start x) 1 0) (take 8 bytes) (drop (8 - last) (take 8 (drop last bytes)))
+    ∙ ap (λ behind. count_by is_char_start (take 8 bytes) + count_by is_char_start behind) (ap (drop (8 - last)) all ∙ same-place bytes last 8 few)
+    ∙ count-from bytes 8
+
+pub starts-two : (first second : List ℕ) (skipped : ℕ) → length first ≡ 8 → length second ≡ 8 → Each1 (λ b. b < 256) first → Each1 (λ b. b < 256) second → skipped ≤ 8
+    → 16 - skipped ≡ count_by is_char_start (first ++ drop skipped second) + count_by is_other (first ++ drop skipped second)
+starts-two first second skipped long also below beneath le =
+    omega (arith, long, count-others first below, starts-behind second 8 skipped also beneath le, sum_by-append (λ x. cond (is_char_start x) 1 0) first (drop skipped second), sum_by-append (λ x. cond (is_other x) 1 0) first (drop skipped second))

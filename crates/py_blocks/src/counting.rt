@@ -44,6 +44,19 @@ fn starts_behind(bytes: Few, skipped: usize) -> usize
     FEW - skipped - (others.to_bitmask() >> skipped).count_ones() as usize
 }
 
+/// How many bytes begin a character of eight, and of eight more but for the first of these: those that begin none are counted together.
+fn starts_in_two(first: Few, second: Few, skipped: usize) -> usize
+    requires first { length first ≡ 8 }
+    requires second { length second ≡ 8 }
+    requires skipped { skipped ≤ 8 }
+    ensures { result ≡ count_by is_char_start (first ++ drop skipped second) }
+{
+    let begun = (first + Few::splat(0x80)).simd_lt(Few::splat(0x40));
+    let others = (second + Few::splat(0x80)).simd_lt(Few::splat(0x40));
+    let all = begun.to_bitmask() + (others.to_bitmask() >> skipped) * 0x100;
+    BLOCK - skipped - all.count_ones() as usize
+}
+
 /// How many bytes of whole blocks begin a character, and the place behind those blocks, fewer than a block before the end.
 fn starts_in_blocks(bytes: &[u8]) -> (usize, usize)
     ensures counted { result.0 ≡ count_by is_char_start (take result.1 bytes.now) }
@@ -88,6 +101,11 @@ pub fn count_starts(bytes: &[u8]) -> usize
 {
     if bytes.len() < FEW {
         return bytes.iter().filter(|byte| is_start(**byte)).count();
+    }
+    if bytes.len() <= BLOCK {
+        let last = bytes.len() - FEW;
+        let (first, second) = (Few::from_slice(bytes), Few::from_slice(&bytes[last..]));
+        return starts_in_two(first, second, FEW - last);
     }
     if bytes.len() < MANY {
         return starts_from(bytes, 0);

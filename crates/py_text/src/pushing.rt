@@ -44,6 +44,7 @@ fn push_as_is(alloc: Global, coder: Coder, text: &str, out: &mut Vec<u8>) -> Res
 }
 
 /// Appends a text, cut at its LFs, each of which becomes the line end of the rule. What was appended before an `Err` stays.
+#[inline(never)]
 fn push_lines(
     alloc: Global,
     coder: Coder,

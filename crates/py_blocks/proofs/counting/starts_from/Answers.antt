@@ -5,7 +5,7 @@ use Rattle.py_blocks.proofs.counting.starts_from.Goals as goal
 pub overflow_add-count : goal.overflow_add-count
 overflow_add-count c =
     let tail = drop c.args.from c.args.bytes.now in
-    omega (arith, c.loop-place.invariant.counted, c.starts_behind-count.ensures, c.loop-place.invariant.behind, c.loop-place-test.true, count-eight c.args.bytes.now c.args.from c.loop-place.place c.loop-place.invariant.behind, count-within tail (c.loop-place.place + 8 - c.args.from), c.type_inv, c.ranges)
+    omega (arith, c.loop-place.invariant.counted, c.starts_behind-count.ensures, c.loop-place.invariant.behind, c.loop-place-test.true, count-eight c.args.bytes.now c.args.from c.loop-place.place c.loop-place.invariant.behind, count-within tail (c.loop-place.place + 8 - c.args.from), c.ranges)
 
 pub loop-place-preserved : goal.loop-place-preserved
 loop-place-preserved c = record {
