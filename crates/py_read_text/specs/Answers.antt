@@ -7,6 +7,7 @@ use Rattle.py_flat.specs.declared.life.Life.{Life}
 use Rattle.py_flat.specs.declared.life.Life.TheVariants as life
 use Rattle.py_flat.specs.Calls as binary
 use Rattle.py_flat.specs.Calls.{FileReply, Text, Count, Cookie, Done, NotReady, Unwritten, Refused}
+use Rattle.py_flat.specs.Bytes.{lay}
 use Rattle.py_flat.specs.Causes.{rose, counted}
 use Rattle.py_flat.specs.Limits.{greatest_place}
 use Rattle.py_flat.specs.Lines.{first_line}
@@ -15,7 +16,7 @@ use Rattle.py_plain.specs.declared.newlines.Newlines.{Newlines}
 use Rattle.py_plain.specs.NewlineRule.{line_end}
 use Rattle.py_codec.specs.Answers.{text_of}
 use Rattle.py_plain_text.specs.TextFile.{TextPlace, clean_at, TextSettings, TextFile}
-use Rattle.py_plain_text.specs.TextOver.{TextOver}
+use Rattle.py_plain_text.specs.TextOver.{TextOver, text_file_of}
 use Rattle.py_plain_text.specs.TextStep.{asks_any, place_taking}
 use Rattle.py_plain_text.specs.declared.text_cookie.TextIOCookie.{TextIOCookie}
 use Rattle.py_plain_text.specs.Cookie as cookie
@@ -29,7 +30,7 @@ use Rattle.py_raw.specs.RawStream.{KeepsBytes, AnswersFor}
 use Rattle.py_stream.specs.Stream.{nothing_owed}
 use Rattle.py_stream.specs.Kinds.{says_fault, says_no_memory}
 use Rattle.py_stream.specs.Answers.{HasCauses}
-use Rattle.py_stream.specs.Buffer.{Buffer, WhereShown, KeepsBuffer, IsClosedWithRaw, parts_when_closed, AnswersAsBuffer, StandsAsCounted}
+use Rattle.py_stream.specs.Buffer.{Buffer, WhereShown, flat_of, KeepsBuffer, IsClosedWithRaw, parts_when_closed, AnswersAsBuffer, StandsAsCounted}
 use Rattle.py_read_text.specs.TextState.{TextState, file_of}
 use Rattle.py_read_text.specs.Waiting.{ShowsAll}
 use Rattle.py_read_text.specs.Ahead.{ReadsNoFurther, ReadsOn}
@@ -174,26 +175,37 @@ PlaceMoves call short reply before end after = after ≡ before
 abbrev pub further : TextPlace → ℕ → TextPlace
 further place count = record place { at = place.at + count }
 
--- the buffer was read ahead of a text that is written, and didn't go back to it
+-- told, the bytes that a text stands for: those of its raw, with all that is owed laid on
+abbrev pub bytes_of : TextOver Buffer → List ℕ
+bytes_of text = (text_file_of flat_of text).bytes
+
+-- the text took all bytes of a write, and stands behind them. Told, none is lost: they lie where it stood, in the raw or among what is owed
+pub record TookWritten (written : List ℕ) (before after : TextOver Buffer) : Type 0 where
+  pub place : after.place ≡ further before.place (length written)
+  pub bytes : WhereShown before.buffer (bytes_of after ≡ lay (bytes_of before) before.place.at written)
+
+-- the buffer was read ahead of a text that is written, and didn't go back to it: nothing of the write was taken
 pub record StaysAhead (before after : TextOver Buffer) : Type 0 where
   pub ahead : behind_own before ≢ before.place.at
   pub still : behind_own after ≡ behind_own before
   pub place : after.place ≡ before.place
+  pub bytes : WhereShown before.buffer (bytes_of after ≡ bytes_of before)
 
--- the raw failed in a write of n bytes: the text stands behind them all, or as it was, where its buffer had to go back first and failed to
-abbrev pub FaultMoves : ℕ → TextOver Buffer → TextOver Buffer → Type 0
-FaultMoves count before after = (after.place ≡ further before.place count) ⊎ StaysAhead before after
+-- the raw failed in a write: the text took all its bytes, or stands as it did, where its buffer had to go back first and failed to
+abbrev pub FaultMoves : List ℕ → TextOver Buffer → TextOver Buffer → Type 0
+FaultMoves written before after = TookWritten written before after ⊎ StaysAhead before after
 
--- a write of n bytes ran out of memory: the text lives on and stands as it was, or failed and stands behind them all
-abbrev pub MemoryMoves : ℕ → TextOver Buffer → TextOver Buffer → Type 0
-MemoryMoves count before after = ((after.life ≡ before.life) × (after.place ≡ before.place)) ⊎ ((after.life ≡ life.Failed) × (after.place ≡ further before.place count))
+-- a write ran out of memory: the text lives on and stands as it did, or failed and took all its bytes
+abbrev pub MemoryMoves : List ℕ → TextOver Buffer → TextOver Buffer → Type 0
+MemoryMoves written before after = ((after.life ≡ before.life) × (after.place ≡ before.place)) ⊎ ((after.life ≡ life.Failed) × TookWritten written before after)
 
--- the place after a write: behind all its bytes, also where the raw would have blocked, and where what failed took them
+-- the place after a write: behind all its bytes, also where the raw would have blocked, and where what failed took them, which are all there
+-- then
 abbrev pub WriteMoves : TextOver Buffer → TextFileCall → FileReply → TextOver Buffer → Type 0
 WriteMoves before (WriteText text) (Count count) after = after.place ≡ further before.place (length (written_bytes before.settings text))
 WriteMoves before (WriteText text) (Refused (fault.WouldBlock taken)) after = (taken ≡ length (written_bytes before.settings text)) × (after.place ≡ further before.place taken)
-WriteMoves before (WriteText text) (Refused fault.RawFault) after = FaultMoves (length (written_bytes before.settings text)) before after
-WriteMoves before (WriteText text) (Refused fault.NoMemory) after = MemoryMoves (length (written_bytes before.settings text)) before after
+WriteMoves before (WriteText text) (Refused fault.RawFault) after = FaultMoves (written_bytes before.settings text) before after
+WriteMoves before (WriteText text) (Refused fault.NoMemory) after = MemoryMoves (written_bytes before.settings text) before after
 WriteMoves before (WriteText text) reply after = after.place ≡ before.place
 WriteMoves before call reply after = Unit {0}
 

@@ -195,7 +195,7 @@ wrote_failed old new text may took failed joined =
       settings = took.settings;
       life_is = failed;
       place = tt;
-      written = inl took.place;
+      written = inl (record { place = took.place; bytes = took.bytes });
       lines = tt;
       blames = tt;
       seeks = tt;
@@ -237,7 +237,7 @@ wrote_starved old new text may took failed has gave takes joined =
       settings = took.settings;
       life_is = inr (refl, failed);
       place = tt;
-      written = inr (failed, took.place);
+      written = inr (failed, record { place = took.place; bytes = took.bytes });
       lines = tt;
       blames = tt;
       seeks = tt;
@@ -534,7 +534,7 @@ ahead_so : (view : WrittenView) → view.text.at ≢ view.text.buffer.place → 
 ahead_so view apart = λ same. apart (omega (arith, same, ap (λ (place : TextPlace). place.at) (behind_so (place_of view.text) view.pending)))
 
 pub written_not : (old new : WrittenView) (text : List ℕ) (why : IoFault) → MayWrite old text → BackOutcome old (Err why) new → IsJoined (over_of new) → Answers (state_of old false) (WriteText text) (Refused why) (state_of new (says_wait (Refused why)))
-written_not old new text fault.RawFault may outcome joined = unwritten_failed old new text may outcome.0 outcome.1 (record { ahead = ahead_so old outcome.2; still = outcome.3; place = outcome.0.place }) joined
+written_not old new text fault.RawFault may outcome joined = unwritten_failed old new text may outcome.0 outcome.1 (record { ahead = ahead_so old outcome.2; still = outcome.3; place = outcome.0.place; bytes = outcome.0.bytes }) joined
 written_not old new text fault.NoMemory may outcome joined = unwritten_starved old new text may (hands_given old new (own_bytes old text) false false outcome.0) outcome.1 joined
 written_not old new text other may outcome joined = absurd outcome
 
