@@ -6,6 +6,7 @@ ghost use Rattle.py_blocks.specs.Runs.{IsRun};
 ghost use Rattle.py_blocks.specs.Writing.{IsOneByte};
 
 use crate::ascii::ascii_front;
+use crate::counting::is_start;
 use crate::utf16::push_utf16_run;
 use py_plain::Encoding;
 use std::alloc::AllocError;
@@ -35,13 +36,40 @@ pub fn next_most(most: usize, run: usize) -> usize
     }
 }
 
-/// A count of first bytes that are the UTF-8 of whole characters: up to the first that begins none.
+/// How many bytes a character of UTF-8 has that such a byte begins.
+fn width(byte: u8) -> usize {
+    match byte {
+        0..=0x7F => 1,
+        0x80..=0xDF => 2,
+        0xE0..=0xEF => 3,
+        0xF0..=0xFF => 4,
+    }
+}
+
+/// Where the last whole character ends of some bytes of UTF-8, of which the last may be cut: what is behind it is found malformed only after
+/// all before it was tested again.
+fn whole_end(bytes: &[u8]) -> usize
+    ensures { result ≤ length bytes.now }
+{
+    let mut at = bytes.len();
+    while at > 0 && bytes.len() - at < 3 {
+        at -= 1;
+        if is_start(bytes[at]) {
+            let cut = bytes.len() - at < width(bytes[at]);
+            return if cut { at } else { bytes.len() };
+        }
+    }
+    bytes.len()
+}
+
+/// A count of first bytes that are the UTF-8 of whole characters: up to the first that begins none, or up to a last one that is cut.
 fn utf8_front(bytes: &[u8]) -> usize
     ensures within { result ≤ length bytes.now }
     ensures utf8 { IsUtf8 (take result bytes.now) }
 {
-    match simdutf8::compat::from_utf8(bytes) {
-        Ok(_) => bytes.len(),
+    let whole = &bytes[..whole_end(bytes)];
+    match simdutf8::compat::from_utf8(whole) {
+        Ok(_) => whole.len(),
         Err(error) => error.valid_up_to(),
     }
 }
