@@ -1,8 +1,11 @@
-//! Buffered streams over a real file.
+//! Buffered streams over a real file, and a text over one.
 use py_buffered::{BufferedReader, BufferedWriter};
+use py_codec::{Encoding, Handler};
 use py_example_streams::gives;
 use py_raw::{IoFault, Opener};
-use py_raw_files::FileOpener;
+use py_raw_files::{FileOpener, FileRaw};
+use py_text::{Coder, TextSettings};
+use py_textio::TextIOWrapper;
 use std::alloc::Global;
 use std::path::PathBuf;
 use std::test::Fail;
@@ -55,6 +58,43 @@ fn a_line_is_written_to_a_file(rt: HostRuntime) -> Result<(), Fail> {
     assert!(rt; line_to(&rt, rt.alloc(), path.as_str())? == (Ok(9), Ok(())));
     let held = fs::read(&rt, path.as_path()).expect(&rt, "the file has it");
     assert!(rt; held.as_slice() == b"one line\n".as_slice());
+    fs::remove_file(&rt, path.as_path()).expect(&rt, "a file");
+    Ok(())
+}
+
+/// UTF-8, in which no bad byte is passed.
+const STRICT: Coder = Coder {
+    encoding: Encoding::Utf8,
+    errors: Handler::Strict,
+};
+
+/// Writes lines to a text, and closes it.
+fn write_lines(
+    alloc: Global,
+    text: &mut TextIOWrapper<BufferedWriter<FileRaw>>,
+    lines: &[&str],
+) -> Result<(), IoFault> {
+    for line in lines {
+        text.write(alloc, line)?; // each with its "\n"
+    }
+    text.close() // the file has all of them now; a text that is dropped loses what it owes
+}
+
+/// Opens a path to write a text, and writes lines to it.
+fn lines_to(rt: &HostRuntime, alloc: Global, path: &str, lines: &[&str]) -> Result<(), Fail> {
+    let mut opener = FileOpener::new(&rt);
+    let raw = opener.open_raw(alloc, path, "wb")?;
+    let buffer = BufferedWriter::new(alloc, raw, 8192)?;
+    let mut text = TextIOWrapper::new(alloc, buffer, STRICT, TextSettings::default())?;
+    Ok(write_lines(alloc, &mut text, lines)?)
+}
+
+#[test]
+fn lines_of_a_text_are_written_to_a_file(rt: HostRuntime) -> Result<(), Fail> {
+    let path = own_path(&rt, "lines")?;
+    lines_to(&rt, rt.alloc(), path.as_str(), &["caf\u{E9}\n", "two\n"])?;
+    let held = fs::read(&rt, path.as_path()).expect(&rt, "the file has them");
+    assert!(rt; held.as_slice() == b"caf\xC3\xA9\ntwo\n".as_slice());
     fs::remove_file(&rt, path.as_path()).expect(&rt, "a file");
     Ok(())
 }
