@@ -1,6 +1,7 @@
 //! Texts and sessions that are handed over by a detach.
+use crate::runs::GREATEST_CHUNK;
 use py_flat::IoFault;
-use py_open::{TextSession, TextUnwritten};
+use py_open::{Reconfigure, TextSession, TextUnwritten};
 use py_raw_memory::MemRaw;
 use py_text_trials::{Apart, Held, Tried, Under, take_parts_apart};
 use py_textio::TextIOWrapper;
@@ -10,12 +11,28 @@ use std::alloc::Global;
 pub(crate) trait HandsOver: Tried {
     /// Detaches it, and takes apart what that hands over: of a session all but the raw.
     fn hand_over(&mut self, alloc: Global) -> Result<Apart, IoFault>;
+
+    /// Has chunks of so many bytes, and other settings.
+    fn change(&mut self, chunk_size: usize, changes: Reconfigure) -> Result<(), IoFault>;
+}
+
+/// The chunk size and the settings of a text behind the piece of a number.
+pub(crate) fn changed(number: usize) -> (usize, Reconfigure) {
+    let mut changes = Reconfigure::default();
+    changes.line_buffering = Some(number % 2 == 0);
+    changes.write_through = Some(number % 3 == 0);
+    (1 + number.wrapping_mul(5) % GREATEST_CHUNK, changes)
 }
 
 impl<B: Under> HandsOver for TextIOWrapper<B> {
     fn hand_over(&mut self, alloc: Global) -> Result<Apart, IoFault> {
         let parts = self.detach()?;
         Ok(take_parts_apart(alloc, parts)?)
+    }
+
+    fn change(&mut self, chunk_size: usize, changes: Reconfigure) -> Result<(), IoFault> {
+        self.set_chunksize(chunk_size)?;
+        self.reconfigure(changes)
     }
 }
 
@@ -36,6 +53,11 @@ impl HandsOver for TextSession<MemRaw> {
             unwritten: Vec::new(alloc),
             at: end,
         })
+    }
+
+    fn change(&mut self, chunk_size: usize, changes: Reconfigure) -> Result<(), IoFault> {
+        self.set_chunksize(chunk_size)?;
+        self.reconfigure(changes)
     }
 }
 

@@ -60,6 +60,7 @@ fn main(rt: HostRuntime) -> Result<()> {
         Sweep::Faults,
         Sweep::Read,
         Sweep::Sessions,
+        Sweep::Changed,
     ] {
         run_sweep(&rt, which)?;
     }

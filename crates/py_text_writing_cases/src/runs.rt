@@ -19,6 +19,8 @@ pub(crate) enum Sweep {
     Read,
     /// Sessions that write, append, or also read, over all of these raws.
     Sessions,
+    /// Texts whose chunks, line buffering and write through change between their writes, over all of these raws.
+    Changed,
 }
 
 /// How a text ends.
@@ -59,8 +61,13 @@ pub(crate) struct Run {
     pub buffer_size: usize,
     /// Which readings are made between the writes, where the stream is read.
     pub readings: usize,
+    /// Whether it has other sizes and settings behind each piece.
+    pub changes: bool,
     pub end: End,
 }
+
+/// No chunk has more bytes.
+pub(crate) const GREATEST_CHUNK: usize = 9;
 
 /// The handlers that texts are written by.
 const WRITING: [Handler; 6] = [
@@ -85,6 +92,7 @@ fn by_sizes(number: usize) -> Run {
         chunk_size: 1 + number % 9,
         buffer_size: 1 + number % 5,
         readings: 0,
+        changes: false,
         end: End::Apart,
     }
 }
@@ -141,6 +149,7 @@ impl Sweep {
             Sweep::Faults => "faults",
             Sweep::Read => "read",
             Sweep::Sessions => "sessions",
+            Sweep::Changed => "changed",
         }
     }
 
@@ -150,7 +159,7 @@ impl Sweep {
             Sweep::Sizes | Sweep::Appended => 18,
             Sweep::Waits => 12,
             Sweep::Faults => 16,
-            Sweep::Read => 46,
+            Sweep::Read | Sweep::Changed => 46,
             Sweep::Sessions => 138,
         }
     }
@@ -159,13 +168,17 @@ impl Sweep {
     pub fn handlers(self) -> &'static [Handler] {
         match self {
             Sweep::Read => &HANDLERS,
+            Sweep::Changed => &[Handler::Strict],
             _ => &WRITING,
         }
     }
 
-    /// Whether it has a run of a number by a handler, of texts of a turn. Sessions by another one than strict have a fifth of their runs,
-    /// texts of other turns others, and none that reads by a handler that no text is read by.
+    /// Whether it has a run of a number by a handler, of texts of a turn. Sessions by another one than strict, and texts that change, have a
+    /// fifth of their runs, texts of other turns others, and none that reads by a handler that no text is read by.
     pub fn has(self, number: usize, turn: usize, handler: Handler) -> bool {
+        if self == Sweep::Changed {
+            return number.wrapping_add(turn) % 5 == 0;
+        }
         if self != Sweep::Sessions || handler == Handler::Strict {
             return true;
         }
@@ -179,7 +192,7 @@ impl Sweep {
             Sweep::Sizes | Sweep::Appended => by_sizes(number),
             Sweep::Waits => by_wait(number),
             Sweep::Faults => by_fault(number),
-            Sweep::Read => by_all(number),
+            Sweep::Read | Sweep::Changed => by_all(number),
             Sweep::Sessions => by_all(number % 46),
         };
         let turned = number.wrapping_add(turn);
@@ -187,6 +200,7 @@ impl Sweep {
             over: self.over(number),
             end: ENDS[turned % ENDS.len()],
             readings: turned / ENDS.len() % 3,
+            changes: self == Sweep::Changed,
             ..run
         }
     }
@@ -201,6 +215,11 @@ impl Sweep {
             }),
             Sweep::Appended => Over::Appender,
             Sweep::Read => Over::Random,
+            Sweep::Changed => match number % 3 {
+                0 => Over::Random,
+                1 => Over::Session(Access::Update),
+                _ => Over::Writer,
+            },
             _ => Over::Writer,
         }
     }

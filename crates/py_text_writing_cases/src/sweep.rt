@@ -6,7 +6,7 @@ ghost use Rattle.py_stream.specs.Opening.{StandsAtStart};
 use crate::flat::Flat;
 use crate::handed_over::HandsOver;
 use crate::pieces::{Piece, SAMPLES, pieces_of};
-use crate::runs::{End, Over, Run, Sweep};
+use crate::runs::{End, GREATEST_CHUNK, Over, Run, Sweep};
 use crate::writing::{Counts, finish, hand_over, is_ended, write_all};
 use anyhow::{Result, anyhow};
 use py_buffered::{BufferedRandom, BufferedWriter};
@@ -18,7 +18,7 @@ use py_raw::RawFlags;
 use py_raw_memory::MemRaw;
 use py_stream::NewRefused;
 use py_text::{Coder, TextSettings};
-use py_text_trials::{Apart, Came, ENCODINGS, HANDLERS, RULES, Tried, failing, raw_of, steps};
+use py_text_trials::{Apart, Came, ENCODINGS, HANDLERS, RULES, failing, raw_of, steps};
 use py_textio::TextIOWrapper;
 use std::alloc::{AllocError, Global};
 
@@ -64,12 +64,15 @@ impl Trial<'_> {
         raw_of(alloc, BYTES, flags, plan, failing(alloc, run.fault)?)
     }
 
-    /// Whether a text that was taken apart keeps no more than it may: less than a chunk, and nothing with write through.
+    /// Whether a text that was taken apart keeps no more than it may: less than a chunk, and nothing with write through; of one that
+    /// changed, less than the greatest.
     fn keeps_little(self, apart: &Apart) -> bool {
         if self.run.cut_at.is_some() {
             return true;
         }
-        let most = if self.write_through {
+        let most = if self.run.changes {
+            GREATEST_CHUNK
+        } else if self.write_through {
             1
         } else {
             self.run.chunk_size
@@ -104,7 +107,7 @@ impl Trial<'_> {
 }
 
 /// Makes the calls of a trial on a text and on the flat one, and answers what came of its end.
-fn try_calls<T: Tried>(
+fn try_calls<T: HandsOver>(
     alloc: Global,
     text: &mut T,
     flat: &mut Flat,

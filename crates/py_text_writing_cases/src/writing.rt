@@ -1,6 +1,6 @@
 //! A text and the plain one, written piece by piece.
 use crate::flat::Flat;
-use crate::handed_over::{HandsOver, with_raw};
+use crate::handed_over::{HandsOver, changed, with_raw};
 use crate::pieces::Piece;
 use crate::runs::{End, Run};
 use py_flat::IoFault;
@@ -78,8 +78,14 @@ fn read<T: Tried>(
     came
 }
 
-/// Writes the pieces to both, and reads between them: `Same` where each call was answered, in full or short.
-pub(crate) fn write_all<T: Tried>(
+/// Gives a text the chunks and the settings that it has behind the piece of a number, which call no raw.
+fn change<T: HandsOver>(text: &mut T, number: usize) -> bool {
+    let (chunk_size, changes) = changed(number);
+    text.change(chunk_size, changes) == Ok(())
+}
+
+/// Writes the pieces to both, and reads and changes settings between them: `Same` where each call was answered, in full or short.
+pub(crate) fn write_all<T: HandsOver>(
     alloc: Global,
     text: &mut T,
     flat: &mut Flat,
@@ -98,6 +104,9 @@ pub(crate) fn write_all<T: Tried>(
         }
         if came == Came::Faulted || came == Came::Differs {
             return came;
+        }
+        if run.changes && !change(text, number) {
+            return Came::Differs;
         }
         number = number.saturating_add(1);
     }
