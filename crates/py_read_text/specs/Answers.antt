@@ -239,13 +239,14 @@ TextBlames call reply place far = Unit {0}
 -- Where a text tells that it stands.
 
 -- bytes that are a cookie, which can be built: it begins at no byte before that which the text was put at last, or the item that it was put
--- inside, and feeds none past what was taken from the buffer, or past what the text owes itself
+-- inside, and feeds at most four bytes, none past what was taken from the buffer, or past what the text owes itself
 pub record TellsWithin (bytes : List ℕ) (text : TextOver Buffer) : Type 0 where
   pub told : cookie.Cookie
   pub bytes_are : cookie.parsed bytes ≡ Some told
   pub builds : cookie.is_buildable told ≡ true
   pub forth : begins_at text.place ≤ start_of told
   pub within : start_of told + fed_by told ≤ behind_own text
+  pub few : fed_by told ≤ 4
 
 -- where a text tells that it stands, whether the raw tells or not
 abbrev pub TextTells : TextFileCall → FileReply → TextOver Buffer → Type 0
@@ -436,7 +437,7 @@ pub record Answers (before : TextState) (call : TextFileCall) (reply : FileReply
   -- which range may be refused
   pub blames : TextBlames call reply before.text.place after.text.buffer.place
   -- where a text tells that it stands: no earlier than the byte that it was put at last, or the first of the item that it was put inside, and
-  -- no further than what was taken from the buffer, or than what it owes itself
+  -- no further than what was taken from the buffer, or than what it owes itself, by a cookie that feeds at most four bytes
   pub tells : TextTells call reply before.text
   -- where a seek puts a text
   pub seeks : TextSeeks call reply before.text after.text.place

@@ -145,6 +145,7 @@ tells_on old mid bytes place behind tells = record {
   builds = tells.builds;
   forth = subst (λ (own : TextPlace). begins_at own ≤ start_of tells.told) place tells.forth;
   within = subst (λ (far : ℕ). start_of tells.told + fed_by tells.told ≤ far) behind tells.within;
+  few = tells.few;
 }
 
 pub sought_on : (old mid : TextOver Buffer) (sought : List ℕ) (whence : ℤ) (goal : Cookie) → mid.place ≡ old.place → behind_own mid ≡ behind_own old → SeeksBy mid sought whence goal → SeeksBy old sought whence goal

@@ -65,8 +65,8 @@ near_so : (shown : Told) (told : TextIOCookie) → cookie_shown told ≡ told_sh
 near_so shown told is near = omega (arith, near, ap start_of is, (cookie_of (spot_shown shown)).start)
 
 -- it stands within what was taken
-tells_within : (text : TextOver Buffer) (shown : Told) (told : TextIOCookie) → FieldsFit (cookie_shown told) → cookie_shown told ≡ told_shown shown → begins_at text.place ≤ shown.start → shown.start + shown.length ≤ behind_own text → TellsWithin (cookie_bytes (cookie_shown told)) text
-tells_within text shown told fit is forth within =
+tells_within : (text : TextOver Buffer) (shown : Told) (told : TextIOCookie) → FieldsFit (cookie_shown told) → cookie_shown told ≡ told_shown shown → begins_at text.place ≤ shown.start → shown.start + shown.length ≤ behind_own text → shown.length ≤ 4 → TellsWithin (cookie_bytes (cookie_shown told)) text
+tells_within text shown told fit is forth within few =
     let own = cookie_of (spot_shown shown) in
     record {
       told = cookie_shown told;
@@ -74,6 +74,7 @@ tells_within text shown told fit is forth within =
       builds = builds_so shown told is;
       forth = omega (arith, forth, ap start_of is, own.start);
       within = omega (arith, within, ap start_of is, ap fed_by is, own.start, own.fed);
+      few = omega (arith, few, ap fed_by is, own.fed);
     }
 
 -- What a text tells.
@@ -89,13 +90,13 @@ none_pending size [] is tested = refl
 none_pending size (byte ∷ more) is tested = absurd (grind arith)
 
 -- one that owes nothing itself tells what the text that reads does
-pub tells_read : (now : WrittenView) (text : TextView) (pending : List ℕ) (room : ℕ) (current : Life) (shown : Told) (told_here : TextIOCookie) → view_of text pending room current ≡ now → now.life ≡ life.Live → IsWritten text pending current → pending ≡ [] → FieldsFit (cookie_shown told_here) → cookie_shown told_here ≡ told_shown shown → WhereShown text.buffer (told_shown shown ≡ told (shown_file text)) → begins text.front text.at ≤ shown.start → shown.start + shown.length ≤ text.buffer.place → TellsPlace now told_here
-tells_read now text pending room current shown told_here same live is none fit shows told_is forth within =
+pub tells_read : (now : WrittenView) (text : TextView) (pending : List ℕ) (room : ℕ) (current : Life) (shown : Told) (told_here : TextIOCookie) → view_of text pending room current ≡ now → now.life ≡ life.Live → IsWritten text pending current → pending ≡ [] → FieldsFit (cookie_shown told_here) → cookie_shown told_here ≡ told_shown shown → WhereShown text.buffer (told_shown shown ≡ told (shown_file text)) → begins text.front text.at ≤ shown.start → shown.start + shown.length ≤ text.buffer.place → shown.length ≤ 4 → TellsPlace now told_here
+tells_read now text pending room current shown told_here same live is none fit shows told_is forth within few =
     let lives : current ≡ life.Live = ap (λ (view : WrittenView). view.life) same ∙ live in
     let states = state_same text pending room current false none (lives ∙ sym (is.lives lives)) in
     subst (λ (view : WrittenView). TellsPlace view told_here) same (record {
       told = λ tells. shows ∙ (told_is tells ∙ ap (λ (state : TextState). told (file_of state)) states);
-      within = subst (λ (state : TextState). TellsWithin (cookie_bytes (cookie_shown told_here)) state.text) states (tells_within (read_of text) shown told_here fit shows forth (omega (arith, within)));
+      within = subst (λ (state : TextState). TellsWithin (cookie_bytes (cookie_shown told_here)) state.text) states (tells_within (read_of text) shown told_here fit shows forth (omega (arith, within)) few);
       builds = builds_so shown told_here shows;
       flags = flags_so shown told_here shows;
       near = near_so shown told_here shows (omega (arith, within, is.far));
@@ -112,7 +113,7 @@ tells_behind text (byte ∷ more) room current start told_here is some fit shows
     let view : WrittenView = view_of text (byte ∷ more) room current in
     record {
       told = λ tells. shows ∙ (ap (λ (at : ℕ). told_shown (behind_them at)) there ∙ told_clean (file_now view) stands.2 stands.0.taken);
-      within = tells_within (over_of view) (behind_them start) told_here fit shows (subst (λ (front : Option Front). begins front (text.at + length (byte ∷ more)) ≤ start) (sym stands.2) (omega (arith, there))) (omega (arith, there, stands.1));
+      within = tells_within (over_of view) (behind_them start) told_here fit shows (subst (λ (front : Option Front). begins front (text.at + length (byte ∷ more)) ≤ start) (sym stands.2) (omega (arith, there))) (omega (arith, there, stands.1)) (omega arith);
       builds = builds_so (behind_them start) told_here shows;
       flags = flags_so (behind_them start) told_here shows;
       near = near_so (behind_them start) told_here shows (omega (arith, there, stands.1, is.far));

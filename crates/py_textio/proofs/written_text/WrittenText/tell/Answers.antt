@@ -10,7 +10,7 @@ returns-then-is_empty-clause-tells g c =
     let pending = c.self.inside.pending in
     let none : pending.items ≡ [] = none_pending _ pending.items (omega arith) c.if-is_empty.ensures in
     let fit : FieldsFit (cookie_shown c.cookie.result) = record { start_pos = search rules; dec_flags = search rules; bytes_to_feed = search rules; chars_to_skip = search rules; bytes_to_skip = search rules } in
-    tells_read _ _ pending.items (vec_capacity pending - vec_len pending) c.self.inside.life c.tell.result c.cookie.result c.self.view_is c.requires.live c.self.invariant.0 none fit c.cookie.ensures c.tell.ensures.told c.tell.ensures.forth c.tell.ensures.fits
+    tells_read _ _ pending.items (vec_capacity pending - vec_len pending) c.self.inside.life c.tell.result c.cookie.result c.self.view_is c.requires.live c.self.invariant.0 none fit c.cookie.ensures c.tell.ensures.told c.tell.ensures.forth c.tell.ensures.fits c.tell.ensures.within.length
 
 pub returns-clause-tells : goal.returns-clause-tells
 returns-clause-tells g c =
