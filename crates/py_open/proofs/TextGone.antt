@@ -83,10 +83,10 @@ lines_none : (call : TextFileCall) (newline : _) → ReadsOneLine newline call (
 lines_none (ReadLine limit) newline = tt
 lines_none call newline = tt
 
-blames_none : (call : TextFileCall) (place : TextPlace) (far : ℕ) → TextBlames call (Refused fault.Detached) place far
-blames_none (Read size) place far = tt
-blames_none (ReadLine limit) place far = tt
-blames_none call place far = tt
+blames_none : (call : TextFileCall) (settings : TextSettings) (place : TextPlace) (far : ℕ) → TextBlames call (Refused fault.Detached) settings place far
+blames_none (Read size) settings place far = tt
+blames_none (ReadLine limit) settings place far = tt
+blames_none call settings place far = tt
 
 tells_none : (call : TextFileCall) (text : TextOver Buffer) → TextTells call (Refused fault.Detached) text
 tells_none Tell text = tt
@@ -120,7 +120,7 @@ gone_answers can buffering settings raw call asks =
       nothing = λ none. refl;
       moves = record { settings = settings_stay call settings; life_is = life_stays can.writable call; place = place_stays call gone.text.place; written = written_stays gone.text call };
       lines = lines_none call settings.newline;
-      blames = blames_none call gone.text.place gone.text.buffer.place;
+      blames = blames_none call gone.text.settings gone.text.place gone.text.buffer.place;
       tells = tells_none call gone.text;
       seeks = seeks_none call gone.text;
       joined = gone_joined can buffering settings raw;

@@ -7,13 +7,15 @@ use Rattle.py_flat.specs.declared.life.Life.TheVariants as life
 use Rattle.py_flat.specs.Bytes.{left_at}
 use Rattle.py_flat.specs.BinaryStep.{IsFrontOf}
 use Rattle.py_flat.specs.Calls.{Text, NotReady, Refused}
+use Rattle.py_plain.specs.declared.encoding.Encoding.{Encoding}
+use Rattle.py_plain.specs.declared.handler.Handler.{Handler}
 use Rattle.py_plain.specs.Handlers.{treatment}
 use Rattle.py_plain.specs.Items.{Walk, AtEnd, ends, characters_of, refusal_of}
 use Rattle.py_plain.specs.Pieces.{walk_at}
 use Rattle.py_flat.specs.Lines.{line_after}
 use Rattle.py_plain.specs.NewlineRule.{line_end, read_all}
 use Rattle.py_codec.specs.Answers.{text_of}
-use Rattle.py_plain_text.specs.TextFile.{TextFile, TextPlace, clean_at}
+use Rattle.py_plain_text.specs.TextFile.{TextFile, TextPlace, TextSettings, clean_at}
 use Rattle.py_plain_text.specs.TextStep.{asks_any, place_taking, after_taking, at_the_end}
 use Rattle.py_plain_text.specs.TextAllowed.{TextFileStep}
 use Rattle.py_stream.specs.Buffer.{WhereShown, flat_of}
@@ -24,8 +26,8 @@ use Rattle.py_held_text.specs.Decodes.{IsDrained}
 use Rattle.py_held_text.specs.Finding.{answer_of, enough, enough_before}
 use Rattle.py_read_text.specs.declared.read_text.Answer.TheVariants as answer
 use Rattle.py_read_text.specs.Waiting.{bytes_between, ShowsAll}
-use Rattle.py_read_text.specs.Answers.{IsReplyTo, PlaceMoves, BlamesTaken, ReadsOneLine, TextBlames}
-use Rattle.py_read_text.specs.Knowing.{TextView, place_of, shown_file, from_place, front_of, KnowsTold, IsText}
+use Rattle.py_read_text.specs.Answers.{IsReplyTo, PlaceMoves, BlamesTaken, ReadsOneLine, may_refuse, TextBlames}
+use Rattle.py_read_text.specs.Knowing.{TextView, place_of, shown_file, from_place, front_of, KnowsTold, ReadsBy, IsText}
 use Rattle.py_read_text.specs.Reading.{call_of, size_of, asks_all, ComesLast, RefusesAt, RangeInHand, IsAtEnd, HoldsNothing, GiveOutcome, GiveAllOutcome, Finishes}
 use Rattle.py_read_text.proofs.Following.{all_none, so_far_empty}
 use Rattle.py_read_text.proofs.Ranges.{asks_past_range}
@@ -62,9 +64,9 @@ moves_short (Characters None) old new end cs fits taken = record { taken = taken
 moves_short (Characters (Some size)) old new end cs fits taken = record { taken = taken; within = within_limit (Some size) (length cs) fits }
 moves_short (Line limit) old new end cs fits taken = record { taken = taken; within = within_limit limit (length cs) fits }
 
-blames_none : (asked : Wanted) (cs : List ℕ) (place : TextPlace) (far : ℕ) → TextBlames (call_of asked) (Text cs) place far
-blames_none (Characters size) cs place far = tt
-blames_none (Line limit) cs place far = tt
+blames_none : (asked : Wanted) (cs : List ℕ) (settings : TextSettings) (place : TextPlace) (far : ℕ) → TextBlames (call_of asked) (Text cs) settings place far
+blames_none (Characters size) cs settings place far = tt
+blames_none (Line limit) cs settings place far = tt
 
 -- what a giving does to the model's file
 gave_file : (old new : TextView) (count : ℕ) (asks : Bool) (text : String Global) → GiveOutcome old count asks (Ok text) new → shown_file new ≡ after_taking (shown_file old) count asks
@@ -89,7 +91,7 @@ whole_of old new asked count text sized within fits one gave step =
       sound = refl;
       place = moves_whole asked (place_of old) (place_of new) old.buffer.place (text_of text) sized (subst (λ (n : ℕ). IfSome (size_of asked) (λ most. n ≤ most)) (sym size) fits) (gave_place old new count (asks_any (size_of asked)) text within gave);
       lines = subst (λ (cs : List ℕ). ReadsOneLine old.settings.newline (call_of asked) (Text cs)) (sym gave.0) one;
-      blames = blames_none asked (text_of text) (place_of old) old.buffer.place;
+      blames = blames_none asked (text_of text) old.settings (place_of old) old.buffer.place;
       told = λ told. subst (λ (cs : List ℕ). TextFileStep (shown_file old) (call_of asked) (Text cs) false false (shown_file new)) (sym gave.0)
           (subst (TextFileStep (shown_file old) (call_of asked) (Text (take count old.held.known)) false false) (sym (gave_file old new count (asks_any (size_of asked)) text gave)) (step told));
       hides = λ waits. absurd (cc);
@@ -114,17 +116,22 @@ stays_refused (Characters None) start end place far = refl
 stays_refused (Characters (Some size)) start end place far = refl
 stays_refused (Line limit) start end place far = refl
 
-blames_taken : (asked : Wanted) (start end : ℕ) (place : TextPlace) (far : ℕ) → BlamesTaken (size_of asked) place start end far → TextBlames (call_of asked) (Refused (fault.UnicodeDecodeError start end)) place far
-blames_taken (Characters size) start end place far taken = taken
-blames_taken (Line limit) start end place far taken = taken
+blames_taken : (asked : Wanted) (start end : ℕ) (settings : TextSettings) (place : TextPlace) (far : ℕ) → BlamesTaken (size_of asked) settings place start end far → TextBlames (call_of asked) (Refused (fault.UnicodeDecodeError start end)) settings place far
+blames_taken (Characters size) start end settings place far taken = taken
+blames_taken (Line limit) start end settings place far taken = taken
+
+-- where the handler by which what is in hand is read may refuse bytes, that of the settings may
+refuses_by : (text : TextView) → ReadsBy text.settings text.held → may_refuse text.held.encoding text.held.handler ≡ true → may_refuse text.settings.encoding text.settings.handler ≡ true
+refuses_by text reads refuses =
+    sym (ap (λ (encoding : Encoding). may_refuse encoding text.held.handler) reads.encoding ∙ ap (λ (handler : Handler). may_refuse text.settings.encoding handler) reads.handler) ∙ refuses
 
 refused_lines : (asked : Wanted) (start end : ℕ) (newline : _) → ReadsOneLine newline (call_of asked) (Refused (fault.UnicodeDecodeError start end))
 refused_lines (Characters size) start end newline = tt
 refused_lines (Line limit) start end newline = tt
 
 -- a refused range that the answer would pass
-pub finishes_refused : (text : TextView) (asked : Wanted) (start end : ℕ) → Holds text → WhereShown text.buffer (Tied text) → RangeInHand text start end → enough_before asked text.held.newline text.held.known ≡ None → WhereShown text.buffer (ComesLast text (Some (start, end))) → Finishes text asked (Err (fault.UnicodeDecodeError start end)) text
-finishes_refused text asked start end holds tied range is last = record {
+pub finishes_refused : (text : TextView) (asked : Wanted) (start end : ℕ) → text.buffer.can.readable ≡ true → Holds text → WhereShown text.buffer (Tied text) → RangeInHand text start end → enough_before asked text.held.newline text.held.known ≡ None → WhereShown text.buffer (ComesLast text (Some (start, end))) → Finishes text asked (Err (fault.UnicodeDecodeError start end)) text
+finishes_refused text asked start end reads holds tied range is last = record {
   buffer = refl;
   settings = refl;
   answer = refuses_text asked start end;
@@ -132,7 +139,7 @@ finishes_refused text asked start end holds tied range is last = record {
   sound = refl;
   place = stays_refused asked start end (place_of text) text.buffer.place;
   lines = refused_lines asked start end text.settings.newline;
-  blames = blames_taken asked start end (place_of text) text.buffer.place (record { asks = asks_past_range asked text.held.newline text.held.known is; forth = omega (arith, holds.forth, range.forth); some = range.some; within = omega (arith, holds.stands, range.within) });
+  blames = blames_taken asked start end text.settings (place_of text) text.buffer.place (record { asks = asks_past_range asked text.held.newline text.held.known is; refuses = refuses_by text (holds.reads_by reads) range.refuses; forth = omega (arith, holds.forth, range.forth); some = range.some; within = omega (arith, holds.stands, range.within) });
   told = λ told. step_refuses text asked start end (tied told) (last told) is;
   hides = λ waits. absurd (cc);
 }
@@ -232,9 +239,9 @@ unready_text : (asked : Wanted) (writes : Bool) → IsReplyTo writes (call_of as
 unready_text (Characters size) writes = tt
 unready_text (Line limit) writes = tt
 
-blames_unready : (asked : Wanted) (place : TextPlace) (far : ℕ) → TextBlames (call_of asked) NotReady place far
-blames_unready (Characters size) place far = tt
-blames_unready (Line limit) place far = tt
+blames_unready : (asked : Wanted) (settings : TextSettings) (place : TextPlace) (far : ℕ) → TextBlames (call_of asked) NotReady settings place far
+blames_unready (Characters size) settings place far = tt
+blames_unready (Line limit) settings place far = tt
 
 unready_lines : (asked : Wanted) (newline : _) → ReadsOneLine newline (call_of asked) NotReady
 unready_lines (Characters size) newline = tt
@@ -256,7 +263,7 @@ finishes_unready text asked live reads is none drained holds =
       sound = refl;
       place = stays_unready asked (place_of text) text.buffer.place;
       lines = unready_lines asked text.settings.newline;
-      blames = blames_unready asked (place_of text) text.buffer.place;
+      blames = blames_unready asked text.settings (place_of text) text.buffer.place;
       told = λ told. step_unready text asked (tied told);
       hides = λ waits. (holds, λ told. shows_all text (omega (arith, is.forth, is.stands)) none drained (tied told).knows);
     }
@@ -276,7 +283,7 @@ finishes_short old new asked count text live reads is short drained holds size s
       sound = refl;
       place = moves_short asked (place_of old) (place_of new) old.buffer.place (text_of text) (subst (λ (cs : List ℕ). IfSome (size_of asked) (λ most. length cs ≤ most)) (sym all) (is_short asked old.held.newline known short).size) (gave_place old new count true text (omega (arith, size)) gave);
       lines = reads_one asked old.held.newline old.settings.newline known (text_of text) (is.reads_by reads).newline ((is_short asked old.held.newline known short).answer ∙ sym all);
-      blames = blames_none asked (text_of text) (place_of old) old.buffer.place;
+      blames = blames_none asked (text_of text) old.settings (place_of old) old.buffer.place;
       told = λ told. subst (λ (cs : List ℕ). TextFileStep (shown_file old) (call_of asked) (Text cs) true false (shown_file new)) (sym all)
           (subst (TextFileStep (shown_file old) (call_of asked) (Text known) true false) (sym (gave_file old new count true text gave ∙ ap (λ (n : ℕ). after_taking (shown_file old) n true) size)) (step_waits old asked (tied told) short some));
       hides = λ waits. subst (λ (view : TextView). HoldsNothing view.buffer × WhereShown old.buffer (ShowsAll (shown_file view) view.buffer.place)) (sym gave.1)

@@ -129,7 +129,7 @@ pub record Parts (old : TextView) (asked : Wanted) (waited short : Bool) (reply 
   pub shorts : IsShort reply short
   pub place : PlaceMoves (call_of asked) short reply (place_of old) new.buffer.place (place_of new)
   pub lines : ReadsOneLine old.settings.newline (call_of asked) reply
-  pub blames : TextBlames (call_of asked) reply (place_of old) new.buffer.place
+  pub blames : TextBlames (call_of asked) reply old.settings (place_of old) new.buffer.place
   pub joined : IsJoined (over_of new)
   pub needs : GathersAsNeeded old asked new
   pub brings : ReadsOn old.buffer new.buffer
@@ -220,13 +220,13 @@ stopped_lines : (asked : Wanted) (why : IoFault) (newline : _) → ReadsOneLine 
 stopped_lines (Characters size) why newline = tt
 stopped_lines (Line limit) why newline = tt
 
-fault_blames : (asked : Wanted) (place : TextPlace) (far : ℕ) → TextBlames (call_of asked) (Refused fault.RawFault) place far
-fault_blames (Characters size) place far = tt
-fault_blames (Line limit) place far = tt
+fault_blames : (asked : Wanted) (settings : TextSettings) (place : TextPlace) (far : ℕ) → TextBlames (call_of asked) (Refused fault.RawFault) settings place far
+fault_blames (Characters size) settings place far = tt
+fault_blames (Line limit) settings place far = tt
 
-starved_blames : (asked : Wanted) (place : TextPlace) (far : ℕ) → TextBlames (call_of asked) (Refused fault.NoMemory) place far
-starved_blames (Characters size) place far = tt
-starved_blames (Line limit) place far = tt
+starved_blames : (asked : Wanted) (settings : TextSettings) (place : TextPlace) (far : ℕ) → TextBlames (call_of asked) (Refused fault.NoMemory) settings place far
+starved_blames (Characters size) settings place far = tt
+starved_blames (Line limit) settings place far = tt
 
 faults_reply : (asked : Wanted) (writes : Bool) → IsReplyTo writes (call_of asked) (Refused fault.RawFault)
 faults_reply (Characters size) writes = tt
@@ -258,7 +258,7 @@ stopped old new asked fault.RawFault live can was joined place nothing needs bri
       shorts = refl;
       place = stops_place asked fault.RawFault old new new.buffer.place place;
       lines = stopped_lines asked fault.RawFault old.settings.newline;
-      blames = fault_blames asked (place_of old) new.buffer.place;
+      blames = fault_blames asked old.settings (place_of old) new.buffer.place;
       joined = joined;
       needs = needs;
       brings = brings;
@@ -278,7 +278,7 @@ stopped old new asked fault.NoMemory live can was joined place nothing needs bri
       shorts = refl;
       place = stops_place asked fault.NoMemory old new new.buffer.place place;
       lines = stopped_lines asked fault.NoMemory old.settings.newline;
-      blames = starved_blames asked (place_of old) new.buffer.place;
+      blames = starved_blames asked old.settings (place_of old) new.buffer.place;
       joined = joined;
       needs = needs;
       brings = brings;
@@ -320,8 +320,9 @@ finished old mid new asked stop result live can was joined place nothing needs b
       place = subst (λ (own : TextPlace). PlaceMoves (call_of asked) (waited_in result) (reply_of result) own new.buffer.place (place_of new)) (same_place old mid place)
           (subst (λ (buffer : Buffer). PlaceMoves (call_of asked) (waited_in result) (reply_of result) (place_of mid) buffer.place (place_of new)) (sym done.buffer) done.place);
       lines = subst (λ (settings : TextSettings). ReadsOneLine settings.newline (call_of asked) (reply_of result)) place.settings done.lines;
-      blames = subst (λ (own : TextPlace). TextBlames (call_of asked) (reply_of result) own new.buffer.place) (same_place old mid place)
-          (subst (λ (buffer : Buffer). TextBlames (call_of asked) (reply_of result) (place_of mid) buffer.place) (sym done.buffer) done.blames);
+      blames = subst (λ (settings : TextSettings). TextBlames (call_of asked) (reply_of result) settings (place_of old) new.buffer.place) place.settings
+          (subst (λ (own : TextPlace). TextBlames (call_of asked) (reply_of result) mid.settings own new.buffer.place) (same_place old mid place)
+          (subst (λ (buffer : Buffer). TextBlames (call_of asked) (reply_of result) mid.settings (place_of mid) buffer.place) (sym done.buffer) done.blames));
       joined = joined;
       needs = λ told. subst (λ (buffer : Buffer). AsksAsNeeded (shown_file old) (call_of asked) old.settings.chunk_size (max old.buffer.place old.at) buffer.place) (sym done.buffer) (needs told);
       brings = subst (ReadsOn old.buffer) (sym done.buffer) brings;

@@ -12,6 +12,10 @@ use Rattle.py_flat.specs.Causes.{rose, counted}
 use Rattle.py_flat.specs.Limits.{greatest_place}
 use Rattle.py_flat.specs.Lines.{first_line}
 use Rattle.py_flat.specs.ExactStep.{is_closed}
+use Rattle.py_plain.specs.declared.encoding.Encoding.{Encoding}
+use Rattle.py_plain.specs.declared.encoding.Encoding.TheVariants.{Utf8, Latin1, Ascii}
+use Rattle.py_plain.specs.declared.handler.Handler.{Handler}
+use Rattle.py_plain.specs.declared.handler.Handler.TheVariants.{Ignore, Replace, BackslashReplace, SurrogateEscape}
 use Rattle.py_plain.specs.declared.newlines.Newlines.{Newlines}
 use Rattle.py_plain.specs.NewlineRule.{line_end}
 use Rattle.py_codec.specs.Answers.{text_of}
@@ -223,18 +227,31 @@ pub record TextMoves (before : TextState) (call : TextFileCall) (reply : FileRep
 
 -- What a refused range says.
 
--- a refused range: some character was asked for; and it has bytes, from the byte of the text place on, that were taken from the buffer
-pub record BlamesTaken (size : Option ℕ) (place : TextPlace) (start end far : ℕ) : Type 0 where
+-- whether a handler may refuse bytes in an encoding: `ignore`, `replace` and `backslashreplace` refuse none, `surrogateescape` none in UTF-8
+-- and ASCII, and no handler any in ISO 8859-1, which has a character for each byte
+abbrev pub may_refuse : Encoding → Handler → Bool
+may_refuse encoding Ignore = false
+may_refuse encoding Replace = false
+may_refuse encoding BackslashReplace = false
+may_refuse Latin1 handler = false
+may_refuse Utf8 SurrogateEscape = false
+may_refuse Ascii SurrogateEscape = false
+may_refuse encoding handler = true
+
+-- a refused range: some character was asked for; the handler may refuse bytes in the encoding; and the range has bytes, from the byte of the
+-- text place on, that were taken from the buffer
+pub record BlamesTaken (size : Option ℕ) (settings : TextSettings) (place : TextPlace) (start end far : ℕ) : Type 0 where
   pub asks : asks_any size ≡ true
+  pub refuses : may_refuse settings.encoding settings.handler ≡ true
   pub forth : place.at ≤ start
   pub some : start < end
   pub within : end ≤ far
 
--- which range a reading may refuse, whether the raw tells or not, by where the buffer stands then
-abbrev pub TextBlames : TextFileCall → FileReply → TextPlace → (far : ℕ) → Type 0
-TextBlames (Read size) (Refused (fault.UnicodeDecodeError start end)) place far = BlamesTaken size place start end far
-TextBlames (ReadLine limit) (Refused (fault.UnicodeDecodeError start end)) place far = BlamesTaken limit place start end far
-TextBlames call reply place far = Unit {0}
+-- which range a reading may refuse, whether the raw tells or not, by the settings and by where the buffer stands then
+abbrev pub TextBlames : TextFileCall → FileReply → TextSettings → TextPlace → (far : ℕ) → Type 0
+TextBlames (Read size) (Refused (fault.UnicodeDecodeError start end)) settings place far = BlamesTaken size settings place start end far
+TextBlames (ReadLine limit) (Refused (fault.UnicodeDecodeError start end)) settings place far = BlamesTaken limit settings place start end far
+TextBlames call reply settings place far = Unit {0}
 
 -- Where a text tells that it stands.
 
@@ -434,8 +451,8 @@ pub record Answers (before : TextState) (call : TextFileCall) (reply : FileReply
   pub moves : TextMoves before call reply after
   -- what a line is that is given
   pub lines : ReadsOneLine before.text.settings.newline call reply
-  -- which range may be refused
-  pub blames : TextBlames call reply before.text.place after.text.buffer.place
+  -- which range may be refused, and by which handlers any
+  pub blames : TextBlames call reply before.text.settings before.text.place after.text.buffer.place
   -- where a text tells that it stands: no earlier than the byte that it was put at last, or the first of the item that it was put inside, and
   -- no further than what was taken from the buffer, or than what it owes itself, by a cookie that feeds at most four bytes
   pub tells : TextTells call reply before.text

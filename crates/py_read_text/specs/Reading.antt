@@ -40,7 +40,7 @@ use Rattle.py_read_text.specs.declared.read_text.Answer.TheVariants as answer
 use Rattle.py_read_text.specs.Waiting.{ShowsAll}
 use Rattle.py_read_text.specs.Ahead.{AsksAsNeeded, ReadsOn}
 use Rattle.py_read_text.specs.Owing.{PassesOwed, LaysFront}
-use Rattle.py_read_text.specs.Answers.{SparesBytes, StandsWhileLive, IsReplyTo, IsShort, PlaceMoves, ReadsOneLine, TextBlames}
+use Rattle.py_read_text.specs.Answers.{SparesBytes, StandsWhileLive, IsReplyTo, IsShort, PlaceMoves, ReadsOneLine, may_refuse, TextBlames}
 
 -- the call that some wanted characters answer
 abbrev pub call_of : Wanted → TextFileCall
@@ -251,11 +251,12 @@ pub record ComesLast (text : TextView) (range : Option (ℕ × ℕ)) : Type 0 wh
   pub characters : (rest_of text).characters ≡ text.held.known
   pub refusal_is : (rest_of text).refusal ≡ range
 
--- a refused range has bytes, none of which was used, that were taken from the buffer
+-- a refused range has bytes, none of which was used, that were taken from the buffer; and the handler may refuse bytes in the encoding
 pub record RangeInHand (text : TextView) (start end : ℕ) : Type 0 where
   pub forth : text.held.place ≤ start
   pub some : start < end
   pub within : end ≤ text.held.place + length text.held.bytes
+  pub refuses : may_refuse text.held.encoding text.held.handler ≡ true
 
 -- what is known of a text when a call stops gathering
 abbrev pub GatheredAt : TextView → Wanted → Gathered → Type 0
@@ -322,7 +323,7 @@ pub record Finishes (old : TextView) (asked : Wanted) (result : Result Answer Io
   pub sound : says_fault (reply_of result) ≡ false
   pub place : PlaceMoves (call_of asked) (waited_in result) (reply_of result) (place_of old) old.buffer.place (place_of new)
   pub lines : ReadsOneLine old.settings.newline (call_of asked) (reply_of result)
-  pub blames : TextBlames (call_of asked) (reply_of result) (place_of old) old.buffer.place
+  pub blames : TextBlames (call_of asked) (reply_of result) old.settings (place_of old) old.buffer.place
   pub told : WhereShown old.buffer (TextFileStep (shown_file old) (call_of asked) (reply_of result) (waited_in result) false (shown_file new))
   pub hides : IsTrue (waited_in result) → HoldsNothing new.buffer × WhereShown old.buffer (ShowsAll (shown_file new) new.buffer.place)
 

@@ -221,7 +221,8 @@ answers_over old mid call reply new short was is writes live lives stood there h
       place = subst (λ (own : TextPlace). PlaceMoves call short reply own new.text.buffer.place (place_now new)) hands.place answers.moves.place;
       written = written;
       lines = subst (λ (own : TextSettings). ReadsOneLine own.newline call reply) hands.settings answers.lines;
-      blames = subst (λ (own : TextPlace). TextBlames call reply own new.text.buffer.place) hands.place answers.blames;
+      blames = subst (λ (own : TextSettings). TextBlames call reply own (place_now old) new.text.buffer.place) hands.settings
+          (subst (λ (own : TextPlace). TextBlames call reply mid.text.settings own new.text.buffer.place) hands.place answers.blames);
       seeks = seeks_on (over_of old) (over_of mid) call reply (place_now new) (record { place = hands.place; behind = behind; can = can; takes = hands.calls.keeps.raw.takes_memory; owed = λ left. back-some old.text.buffer.owed.bytes old.pending owes }) answers.seeks;
       joined = answers.joined;
       owes = owes_behind (over_of old) (over_of mid) (over_of new) call hands.calls.keeps.raw hands.owes hands.settings hands.place answers.owes;

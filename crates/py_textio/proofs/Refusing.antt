@@ -161,12 +161,12 @@ lines_refused : (call : TextFileCall) (why : IoFault) (newline : _) → ReadsOne
 lines_refused (ReadLine limit) why newline = tt
 lines_refused call why newline = tt
 
-blames_refused : (file : TextFile) (call : TextFileCall) (why : IoFault) (place : TextPlace) (far : ℕ) → refusal file call ≡ Some why → TextBlames call (Refused why) place far
-blames_refused file (Read size) (fault.UnicodeDecodeError start end) place far is = let never = refuses_no_range file (Characters size) file.life file.can.readable (fault.UnicodeDecodeError start end) refl refl is in absurd (cc)
-blames_refused file (Read size) why place far is = tt
-blames_refused file (ReadLine limit) (fault.UnicodeDecodeError start end) place far is = let never = refuses_no_range file (Line limit) file.life file.can.readable (fault.UnicodeDecodeError start end) refl refl is in absurd (cc)
-blames_refused file (ReadLine limit) why place far is = tt
-blames_refused file call why place far is = tt
+blames_refused : (file : TextFile) (call : TextFileCall) (why : IoFault) (settings : TextSettings) (place : TextPlace) (far : ℕ) → refusal file call ≡ Some why → TextBlames call (Refused why) settings place far
+blames_refused file (Read size) (fault.UnicodeDecodeError start end) settings place far is = let never = refuses_no_range file (Characters size) file.life file.can.readable (fault.UnicodeDecodeError start end) refl refl is in absurd (cc)
+blames_refused file (Read size) why settings place far is = tt
+blames_refused file (ReadLine limit) (fault.UnicodeDecodeError start end) settings place far is = let never = refuses_no_range file (Line limit) file.life file.can.readable (fault.UnicodeDecodeError start end) refl refl is in absurd (cc)
+blames_refused file (ReadLine limit) why settings place far is = tt
+blames_refused file call why settings place far is = tt
 
 tells_refused : (call : TextFileCall) (why : IoFault) (text : TextOver Buffer) → TextTells call (Refused why) text
 tells_refused Tell why text = tt
@@ -191,7 +191,7 @@ refused text was call why here own once joined =
       nothing = λ none. refl;
       moves = record { settings = settings_refused call why text.text.settings; life_is = life_refused text.text.buffer.can.writable call why text.life own; place = place_refused call why (place_now text) text.text.buffer.place; written = written_refused (over_of text) call why own };
       lines = lines_refused call why text.text.settings.newline;
-      blames = blames_refused (file_now text) call why (place_now text) text.text.buffer.place is;
+      blames = blames_refused (file_now text) call why text.text.settings (place_now text) text.text.buffer.place is;
       tells = tells_refused call why (over_of text);
       seeks = seeks_refused (over_of text) (file_now text) call why is;
       joined = joined;

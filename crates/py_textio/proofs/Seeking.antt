@@ -91,13 +91,13 @@ seek_over old mid new goal reply short was is writes live stood there owes outco
 -- What stops the handing on.
 
 seek_waits : (sought : List ℕ) (whence : ℤ) → Ends (SeekText sought whence) (Refused (fault.WouldBlock 0)) true
-seek_waits sought whence = record { once = refl; some = refl; shorts = refl; settings = λ own. refl; place = λ own end. tt; written = λ before after. tt; answer = refl; calm = λ is fails. absurd (cc); passes = λ before after. tt; kept = λ after. tt; holds = λ before after. tt; lines = λ newline. tt; blames = λ own far. tt; seeks = λ before some. inl (refl, some); moves = λ from to. tt; closes = λ current before after kept. tt }
+seek_waits sought whence = record { once = refl; some = refl; shorts = refl; settings = λ own. refl; place = λ own end. tt; written = λ before after. tt; answer = refl; calm = λ is fails. absurd (cc); passes = λ before after. tt; kept = λ after. tt; holds = λ before after. tt; lines = λ newline. tt; blames = λ settings own far. tt; seeks = λ before some. inl (refl, some); moves = λ from to. tt; closes = λ current before after kept. tt }
 
 seek_faults : (sought : List ℕ) (whence : ℤ) → Ends (SeekText sought whence) (Refused fault.RawFault) false
-seek_faults sought whence = record { once = refl; some = refl; shorts = refl; settings = λ own. refl; place = λ own end. tt; written = λ before after. tt; answer = tt; calm = λ is fails. absurd (cc); passes = λ before after. tt; kept = λ after. tt; holds = λ before after. tt; lines = λ newline. tt; blames = λ own far. tt; seeks = λ before some. inl refl; moves = λ from to. tt; closes = λ current before after kept. tt }
+seek_faults sought whence = record { once = refl; some = refl; shorts = refl; settings = λ own. refl; place = λ own end. tt; written = λ before after. tt; answer = tt; calm = λ is fails. absurd (cc); passes = λ before after. tt; kept = λ after. tt; holds = λ before after. tt; lines = λ newline. tt; blames = λ settings own far. tt; seeks = λ before some. inl refl; moves = λ from to. tt; closes = λ current before after kept. tt }
 
 seek_starves : (sought : List ℕ) (whence : ℤ) → Ends (SeekText sought whence) (Refused fault.NoMemory) false
-seek_starves sought whence = record { once = refl; some = refl; shorts = refl; settings = λ own. refl; place = λ own end. tt; written = λ before after. tt; answer = tt; calm = λ is fails. record { answer = tt; whole = refl }; passes = λ before after. tt; kept = λ after. tt; holds = λ before after. tt; lines = λ newline. tt; blames = λ own far. tt; seeks = λ before some. inl refl; moves = λ from to. tt; closes = λ current before after kept. tt }
+seek_starves sought whence = record { once = refl; some = refl; shorts = refl; settings = λ own. refl; place = λ own end. tt; written = λ before after. tt; answer = tt; calm = λ is fails. record { answer = tt; whole = refl }; passes = λ before after. tt; kept = λ after. tt; holds = λ before after. tt; lines = λ newline. tt; blames = λ settings own far. tt; seeks = λ before some. inl refl; moves = λ from to. tt; closes = λ current before after kept. tt }
 
 pub goes_so : (old : WrittenView) (sought : List ℕ) (whence : ℤ) (goal : Cookie) → old.life ≡ life.Live → Seeks (state_of old false) sought whence goal → WhereShown old.text.buffer (Goes (file_now old) sought whence goal)
 goes_so old sought whence goal live seeks told = let goes = seeks.told told in record { live = live; accepted = goes.0; is = goes.1 }

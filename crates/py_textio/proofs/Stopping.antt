@@ -47,7 +47,7 @@ pub record Ends (call : TextFileCall) (reply : FileReply) (short : Bool) : Type 
   pub kept : (after : _) → TextKeeps call reply after
   pub holds : (before after : _) → TextHolds before call reply after
   pub lines : (newline : _) → ReadsOneLine newline call reply
-  pub blames : (own : TextPlace) (far : ℕ) → TextBlames call reply own far
+  pub blames : (settings : TextSettings) (own : TextPlace) (far : ℕ) → TextBlames call reply settings own far
   pub seeks : (before : TextOver Buffer) → all_owed before ≢ [] → TextSeeks call reply before before.place
   pub moves : (from to : ℕ) → WriteMovesBy call 0 from to
   pub closes : (current : Life) (before after : Buffer) → KeepsOpen before after → Closes current call before reply after
@@ -77,7 +77,7 @@ ends_work old call reply new short owes ends accepted hands there left current j
   place = subst (λ (own : TextPlace). PlaceMoves call short reply (place_now old) new.text.buffer.place own) (sym hands.place) (ends.place (place_now old) new.text.buffer.place);
   written = ends.written (over_of old) (over_of new);
   lines = ends.lines old.text.settings.newline;
-  blames = ends.blames (place_now old) new.text.buffer.place;
+  blames = ends.blames old.text.settings (place_now old) new.text.buffer.place;
   seeks = subst (λ (own : TextPlace). TextSeeks call reply (over_of old) own) (sym hands.place) (ends.seeks (over_of old) (back-some old.text.buffer.owed.bytes old.pending owes.some));
   joined = joined;
   owes = owes_none (over_of old) call (over_of new) (ends.moves (place_now old).at (place_now new).at) hands.owes;
@@ -115,19 +115,19 @@ some_asked : (asked : Wanted) → asks_none asked ≡ false → calls_nothing (c
 some_asked asked some = grind arith
 
 unready_ends : (asked : Wanted) → asks_none asked ≡ false → Ends (call_of asked) NotReady true
-unready_ends (Characters None) some = record { once = refl; some = some_asked (Characters None) some; shorts = refl; settings = λ own. refl; place = λ own end. refl; written = λ before after. tt; answer = tt; calm = λ is. absurd (cc); passes = λ before after. tt; kept = λ after. tt; holds = λ before after. tt; lines = λ newline. tt; blames = λ own far. tt; seeks = λ before some. tt; moves = λ from to. tt; closes = λ current before after kept. tt }
-unready_ends (Characters (Some size)) some = record { once = refl; some = some_asked (Characters (Some size)) some; shorts = refl; settings = λ own. refl; place = λ own end. refl; written = λ before after. tt; answer = tt; calm = λ is. absurd (cc); passes = λ before after. tt; kept = λ after. tt; holds = λ before after. tt; lines = λ newline. tt; blames = λ own far. tt; seeks = λ before some. tt; moves = λ from to. tt; closes = λ current before after kept. tt }
-unready_ends (Line limit) some = record { once = refl; some = some_asked (Line limit) some; shorts = refl; settings = λ own. refl; place = λ own end. refl; written = λ before after. tt; answer = tt; calm = λ is. absurd (cc); passes = λ before after. tt; kept = λ after. tt; holds = λ before after. tt; lines = λ newline. tt; blames = λ own far. tt; seeks = λ before some. tt; moves = λ from to. tt; closes = λ current before after kept. tt }
+unready_ends (Characters None) some = record { once = refl; some = some_asked (Characters None) some; shorts = refl; settings = λ own. refl; place = λ own end. refl; written = λ before after. tt; answer = tt; calm = λ is. absurd (cc); passes = λ before after. tt; kept = λ after. tt; holds = λ before after. tt; lines = λ newline. tt; blames = λ settings own far. tt; seeks = λ before some. tt; moves = λ from to. tt; closes = λ current before after kept. tt }
+unready_ends (Characters (Some size)) some = record { once = refl; some = some_asked (Characters (Some size)) some; shorts = refl; settings = λ own. refl; place = λ own end. refl; written = λ before after. tt; answer = tt; calm = λ is. absurd (cc); passes = λ before after. tt; kept = λ after. tt; holds = λ before after. tt; lines = λ newline. tt; blames = λ settings own far. tt; seeks = λ before some. tt; moves = λ from to. tt; closes = λ current before after kept. tt }
+unready_ends (Line limit) some = record { once = refl; some = some_asked (Line limit) some; shorts = refl; settings = λ own. refl; place = λ own end. refl; written = λ before after. tt; answer = tt; calm = λ is. absurd (cc); passes = λ before after. tt; kept = λ after. tt; holds = λ before after. tt; lines = λ newline. tt; blames = λ settings own far. tt; seeks = λ before some. tt; moves = λ from to. tt; closes = λ current before after kept. tt }
 
 fault_ends : (asked : Wanted) → asks_none asked ≡ false → Ends (call_of asked) (Refused fault.RawFault) false
-fault_ends (Characters None) some = record { once = refl; some = some_asked (Characters None) some; shorts = refl; settings = λ own. refl; place = λ own end. refl; written = λ before after. tt; answer = tt; calm = λ is fails. absurd (cc); passes = λ before after. tt; kept = λ after. tt; holds = λ before after. tt; lines = λ newline. tt; blames = λ own far. tt; seeks = λ before some. tt; moves = λ from to. tt; closes = λ current before after kept. tt }
-fault_ends (Characters (Some size)) some = record { once = refl; some = some_asked (Characters (Some size)) some; shorts = refl; settings = λ own. refl; place = λ own end. refl; written = λ before after. tt; answer = tt; calm = λ is fails. absurd (cc); passes = λ before after. tt; kept = λ after. tt; holds = λ before after. tt; lines = λ newline. tt; blames = λ own far. tt; seeks = λ before some. tt; moves = λ from to. tt; closes = λ current before after kept. tt }
-fault_ends (Line limit) some = record { once = refl; some = some_asked (Line limit) some; shorts = refl; settings = λ own. refl; place = λ own end. refl; written = λ before after. tt; answer = tt; calm = λ is fails. absurd (cc); passes = λ before after. tt; kept = λ after. tt; holds = λ before after. tt; lines = λ newline. tt; blames = λ own far. tt; seeks = λ before some. tt; moves = λ from to. tt; closes = λ current before after kept. tt }
+fault_ends (Characters None) some = record { once = refl; some = some_asked (Characters None) some; shorts = refl; settings = λ own. refl; place = λ own end. refl; written = λ before after. tt; answer = tt; calm = λ is fails. absurd (cc); passes = λ before after. tt; kept = λ after. tt; holds = λ before after. tt; lines = λ newline. tt; blames = λ settings own far. tt; seeks = λ before some. tt; moves = λ from to. tt; closes = λ current before after kept. tt }
+fault_ends (Characters (Some size)) some = record { once = refl; some = some_asked (Characters (Some size)) some; shorts = refl; settings = λ own. refl; place = λ own end. refl; written = λ before after. tt; answer = tt; calm = λ is fails. absurd (cc); passes = λ before after. tt; kept = λ after. tt; holds = λ before after. tt; lines = λ newline. tt; blames = λ settings own far. tt; seeks = λ before some. tt; moves = λ from to. tt; closes = λ current before after kept. tt }
+fault_ends (Line limit) some = record { once = refl; some = some_asked (Line limit) some; shorts = refl; settings = λ own. refl; place = λ own end. refl; written = λ before after. tt; answer = tt; calm = λ is fails. absurd (cc); passes = λ before after. tt; kept = λ after. tt; holds = λ before after. tt; lines = λ newline. tt; blames = λ settings own far. tt; seeks = λ before some. tt; moves = λ from to. tt; closes = λ current before after kept. tt }
 
 memory_ends : (asked : Wanted) → asks_none asked ≡ false → Ends (call_of asked) (Refused fault.NoMemory) false
-memory_ends (Characters None) some = record { once = refl; some = some_asked (Characters None) some; shorts = refl; settings = λ own. refl; place = λ own end. refl; written = λ before after. tt; answer = tt; calm = λ is fails. record { answer = tt; whole = refl }; passes = λ before after. tt; kept = λ after. tt; holds = λ before after. tt; lines = λ newline. tt; blames = λ own far. tt; seeks = λ before some. tt; moves = λ from to. tt; closes = λ current before after kept. tt }
-memory_ends (Characters (Some size)) some = record { once = refl; some = some_asked (Characters (Some size)) some; shorts = refl; settings = λ own. refl; place = λ own end. refl; written = λ before after. tt; answer = tt; calm = λ is fails. record { answer = tt; whole = refl }; passes = λ before after. tt; kept = λ after. tt; holds = λ before after. tt; lines = λ newline. tt; blames = λ own far. tt; seeks = λ before some. tt; moves = λ from to. tt; closes = λ current before after kept. tt }
-memory_ends (Line limit) some = record { once = refl; some = some_asked (Line limit) some; shorts = refl; settings = λ own. refl; place = λ own end. refl; written = λ before after. tt; answer = tt; calm = λ is fails. record { answer = tt; whole = refl }; passes = λ before after. tt; kept = λ after. tt; holds = λ before after. tt; lines = λ newline. tt; blames = λ own far. tt; seeks = λ before some. tt; moves = λ from to. tt; closes = λ current before after kept. tt }
+memory_ends (Characters None) some = record { once = refl; some = some_asked (Characters None) some; shorts = refl; settings = λ own. refl; place = λ own end. refl; written = λ before after. tt; answer = tt; calm = λ is fails. record { answer = tt; whole = refl }; passes = λ before after. tt; kept = λ after. tt; holds = λ before after. tt; lines = λ newline. tt; blames = λ settings own far. tt; seeks = λ before some. tt; moves = λ from to. tt; closes = λ current before after kept. tt }
+memory_ends (Characters (Some size)) some = record { once = refl; some = some_asked (Characters (Some size)) some; shorts = refl; settings = λ own. refl; place = λ own end. refl; written = λ before after. tt; answer = tt; calm = λ is fails. record { answer = tt; whole = refl }; passes = λ before after. tt; kept = λ after. tt; holds = λ before after. tt; lines = λ newline. tt; blames = λ settings own far. tt; seeks = λ before some. tt; moves = λ from to. tt; closes = λ current before after kept. tt }
+memory_ends (Line limit) some = record { once = refl; some = some_asked (Line limit) some; shorts = refl; settings = λ own. refl; place = λ own end. refl; written = λ before after. tt; answer = tt; calm = λ is fails. record { answer = tt; whole = refl }; passes = λ before after. tt; kept = λ after. tt; holds = λ before after. tt; lines = λ newline. tt; blames = λ settings own far. tt; seeks = λ before some. tt; moves = λ from to. tt; closes = λ current before after kept. tt }
 
 wants_nothing : (asked : Wanted) (reply : FileReply) (buffer : Buffer) → WantsMemory (call_of asked) reply buffer
 wants_nothing (Characters size) reply buffer = tt
@@ -172,16 +172,16 @@ accepted_here file true live = passes_accepted file true live
 accepted_here file false live = passes_accepted file false live
 
 wait_ends : (closes : Bool) → Ends (Passing closes) (Refused (fault.WouldBlock 0)) true
-wait_ends true = record { once = refl; some = refl; shorts = refl; settings = λ own. refl; place = λ own end. refl; written = λ before after. tt; answer = (refl, refl); calm = λ is fails. absurd (cc); passes = λ before after. tt; kept = λ after. tt; holds = λ before after. tt; lines = λ newline. tt; blames = λ own far. tt; seeks = λ before some. tt; moves = λ from to. tt; closes = λ current before after kept. tt }
-wait_ends false = record { once = refl; some = refl; shorts = refl; settings = λ own. refl; place = λ own end. refl; written = λ before after. tt; answer = (refl, refl); calm = λ is fails. absurd (cc); passes = λ before after. tt; kept = λ after. tt; holds = λ before after. tt; lines = λ newline. tt; blames = λ own far. tt; seeks = λ before some. tt; moves = λ from to. tt; closes = λ current before after kept. tt }
+wait_ends true = record { once = refl; some = refl; shorts = refl; settings = λ own. refl; place = λ own end. refl; written = λ before after. tt; answer = (refl, refl); calm = λ is fails. absurd (cc); passes = λ before after. tt; kept = λ after. tt; holds = λ before after. tt; lines = λ newline. tt; blames = λ settings own far. tt; seeks = λ before some. tt; moves = λ from to. tt; closes = λ current before after kept. tt }
+wait_ends false = record { once = refl; some = refl; shorts = refl; settings = λ own. refl; place = λ own end. refl; written = λ before after. tt; answer = (refl, refl); calm = λ is fails. absurd (cc); passes = λ before after. tt; kept = λ after. tt; holds = λ before after. tt; lines = λ newline. tt; blames = λ settings own far. tt; seeks = λ before some. tt; moves = λ from to. tt; closes = λ current before after kept. tt }
 
 passing_faults : (closes : Bool) → Ends (Passing closes) (Refused fault.RawFault) false
-passing_faults true = record { once = refl; some = refl; shorts = refl; settings = λ own. refl; place = λ own end. refl; written = λ before after. tt; answer = tt; calm = λ is fails. absurd (cc); passes = λ before after. tt; kept = λ after. tt; holds = λ before after. tt; lines = λ newline. tt; blames = λ own far. tt; seeks = λ before some. tt; moves = λ from to. tt; closes = λ current before after kept. kept.attached }
-passing_faults false = record { once = refl; some = refl; shorts = refl; settings = λ own. refl; place = λ own end. refl; written = λ before after. tt; answer = tt; calm = λ is fails. absurd (cc); passes = λ before after. tt; kept = λ after. tt; holds = λ before after. tt; lines = λ newline. tt; blames = λ own far. tt; seeks = λ before some. tt; moves = λ from to. tt; closes = λ current before after kept. tt }
+passing_faults true = record { once = refl; some = refl; shorts = refl; settings = λ own. refl; place = λ own end. refl; written = λ before after. tt; answer = tt; calm = λ is fails. absurd (cc); passes = λ before after. tt; kept = λ after. tt; holds = λ before after. tt; lines = λ newline. tt; blames = λ settings own far. tt; seeks = λ before some. tt; moves = λ from to. tt; closes = λ current before after kept. kept.attached }
+passing_faults false = record { once = refl; some = refl; shorts = refl; settings = λ own. refl; place = λ own end. refl; written = λ before after. tt; answer = tt; calm = λ is fails. absurd (cc); passes = λ before after. tt; kept = λ after. tt; holds = λ before after. tt; lines = λ newline. tt; blames = λ settings own far. tt; seeks = λ before some. tt; moves = λ from to. tt; closes = λ current before after kept. tt }
 
 passing_starves : (closes : Bool) → Ends (Passing closes) (Refused fault.NoMemory) false
-passing_starves true = record { once = refl; some = refl; shorts = refl; settings = λ own. refl; place = λ own end. refl; written = λ before after. tt; answer = tt; calm = λ is fails. record { answer = tt; whole = refl }; passes = λ before after. tt; kept = λ after. tt; holds = λ before after. tt; lines = λ newline. tt; blames = λ own far. tt; seeks = λ before some. tt; moves = λ from to. tt; closes = λ current before after kept. tt }
-passing_starves false = record { once = refl; some = refl; shorts = refl; settings = λ own. refl; place = λ own end. refl; written = λ before after. tt; answer = tt; calm = λ is fails. record { answer = tt; whole = refl }; passes = λ before after. tt; kept = λ after. tt; holds = λ before after. tt; lines = λ newline. tt; blames = λ own far. tt; seeks = λ before some. tt; moves = λ from to. tt; closes = λ current before after kept. tt }
+passing_starves true = record { once = refl; some = refl; shorts = refl; settings = λ own. refl; place = λ own end. refl; written = λ before after. tt; answer = tt; calm = λ is fails. record { answer = tt; whole = refl }; passes = λ before after. tt; kept = λ after. tt; holds = λ before after. tt; lines = λ newline. tt; blames = λ settings own far. tt; seeks = λ before some. tt; moves = λ from to. tt; closes = λ current before after kept. tt }
+passing_starves false = record { once = refl; some = refl; shorts = refl; settings = λ own. refl; place = λ own end. refl; written = λ before after. tt; answer = tt; calm = λ is fails. record { answer = tt; whole = refl }; passes = λ before after. tt; kept = λ after. tt; holds = λ before after. tt; lines = λ newline. tt; blames = λ settings own far. tt; seeks = λ before some. tt; moves = λ from to. tt; closes = λ current before after kept. tt }
 
 passing_life : (closes : Bool) (before after : Life) → after ≡ faulted_life closes → LifeMoves true (Passing closes) (Refused fault.RawFault) before after
 passing_life true before after is = is

@@ -27,7 +27,7 @@ pub record Works (old : WrittenView) (call : TextFileCall) (reply : FileReply) (
   pub place : PlaceMoves call short reply (place_now old) new.text.buffer.place (place_now new)
   pub written : WriteMoves (over_of old) call reply (over_of new)
   pub lines : ReadsOneLine old.text.settings.newline call reply
-  pub blames : TextBlames call reply (place_now old) new.text.buffer.place
+  pub blames : TextBlames call reply old.text.settings (place_now old) new.text.buffer.place
   pub seeks : TextSeeks call reply (over_of old) (place_now new)
   pub joined : IsJoined (over_of new)
   -- what became of the bytes that were owed, and of the raw

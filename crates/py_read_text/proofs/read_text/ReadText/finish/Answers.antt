@@ -18,4 +18,4 @@ pub returns-in-Refuses-clause-finishes : goal.returns-in-Refuses-clause-finishes
 returns-in-Refuses-clause-finishes g c =
     let holds = subst Holds c.self.view_is c.self.invariant in
     let stands = rw c.in-Refuses.is at c.requires.stands in
-    finishes_refused _ c.args.wanted c.in-Refuses.start c.in-Refuses.end holds (tied_of _ c.requires.live c.requires.reads holds) stands.2 stands.0 stands.1
+    finishes_refused _ c.args.wanted c.in-Refuses.start c.in-Refuses.end c.requires.reads holds (tied_of _ c.requires.live c.requires.reads holds) stands.2 stands.0 stands.1
