@@ -7,14 +7,15 @@ use Rattle.py_plain.specs.declared.handler.Handler.{Handler}
 use Rattle.py_plain.specs.declared.newlines.Newlines.{Newlines}
 use Rattle.py_telling.specs.declared.told.Told.{Told}
 use Rattle.py_telling.specs.ToldView.{IsToldAmong}
-use Rattle.py_plain.specs.NewlineRule.{read_so_far}
+use Rattle.py_plain.specs.NewlineRule.{read_so_far, holds_after}
 use Rattle.py_text.specs.declared.coder.Coder.{Coder}
 use Rattle.py_held_text.specs.declared.base.Mark.{Mark}
 use Rattle.py_held_text.specs.declared.base.BaseMove.{BaseMove}
-use Rattle.py_held_text.proofs.Marking.{either-mark, no-cr, not-base}
+use Rattle.py_held_text.proofs.Marking.{either-mark, no-cut, not-base}
 use Rattle.py_held_text.specs.Held.{back_of, comes_next, mark_by, base_behind, given_on, held_anew, IsMark, IsHeld}
-use Rattle.py_held_text.specs.Known.{KnownView, reading}
+use Rattle.py_held_text.specs.Known.{KnownView, reading, may_cut}
 use Rattle.py_held_text.proofs.Reading.{one-if, read-few}
+use Rattle.py_held_text.proofs.Alone.{given-alone}
 use Rattle.py_held_text.proofs.Holding.{held-by}
 
 -- more bytes were decoded
@@ -104,19 +105,20 @@ kept-more (Some mark) cr now known after back used grows few marked = record {
   few = omega (arith, marked.few, few);
 }
 
-marked-more : (mark : Option Mark) (cr now : Bool) (known after back used : ℕ) → known ≤ after → after + one-if now ≤ known + one-if cr + 6 * used → IfSome mark (IsMark known back cr) → IfSome (mark_by mark cr known back) (IsMark after (back + used) now)
-marked-more mark cr now known after back used grows few marked =
-    either-mark (IsMark after (back + used) now) ((cr || nat_eq back 0) || comes_next mark) mark (record { count = known; passed = back })
+marked-more : (mark : Option Mark) (cr now cut : Bool) (known after back used : ℕ) → known ≤ after → (cut ≡ false → known + one-if cr ≤ after) → after + one-if now ≤ known + one-if cr + 6 * used → IfSome mark (IsMark known back cr) → IfSome (mark_by mark cut (known + one-if cr) back) (IsMark after (back + used) now)
+marked-more mark cr now cut known after back used grows given few marked =
+    either-mark (IsMark after (back + used) now) ((cut || nat_eq back 0) || comes_next mark) mark (record { count = known + one-if cr; passed = back })
     (kept-more mark cr now known after back used grows few marked)
-    (λ sets. record { count = grows; some = not-base cr back (comes_next mark) sets; passed = omega arith; few = omega (arith, few, ap one-if (no-cr cr (nat_eq back 0) (comes_next mark) sets)) })
+    (λ sets. record { count = given (no-cut cut (nat_eq back 0) (comes_next mark) sets); some = not-base cut back (comes_next mark) sets; passed = omega arith; few = omega (arith, few) })
 
 -- what holds of what is in hand, once more was decoded
-pub held-more : (known after : KnownView) (cs : List ℕ) (mark now : Option Mark) (total gone decoded used place front given count passed : ℕ) → IsHeld total gone decoded place (len known.characters) front given known.cr mark → after ≡ reading known cs → len cs ≤ 6 * used → decoded + used ≤ total → now ≡ mark_by mark known.cr count passed → count ≡ len known.characters → passed ≡ decoded - gone → IsHeld total gone (decoded + used) (place + used) (len after.characters) front given after.cr now
-held-more known after cs mark now total gone decoded used place front given count passed is after_is few within now_is count_is passed_is =
+pub held-more : (known after : KnownView) (cs : List ℕ) (mark now : Option Mark) (cut : Bool) (total gone decoded used place front given count passed : ℕ) → IsHeld total gone decoded place (len known.characters) front given known.cr mark → holds_after known.newline known.cr [] ≡ known.cr → after ≡ reading known cs → len cs ≤ 6 * used → decoded + used ≤ total → now ≡ mark_by mark cut count passed → cut ≡ may_cut known.cr cs → count ≡ len known.characters + one-if known.cr → passed ≡ decoded - gone → IsHeld total gone (decoded + used) (place + used) (len after.characters) front given after.cr now
+held-more known after cs mark now cut total gone decoded used place front given count passed is holds after_is few within now_is cut_is count_is passed_is =
     let behind : (decoded + used) - gone ≡ (decoded - gone) + used = omega (arith, is.from) in
     let grows : len (reading known cs).characters ≡ len known.characters + len (read_so_far known.newline known.cr cs) = length-append known.characters (read_so_far known.newline known.cr cs) in
     let read = read-few known.newline known.cr cs in
-    let now_here : now ≡ mark_by mark known.cr (len known.characters) (decoded - gone) = now_is ∙ (ap (λ (n : ℕ). mark_by mark known.cr n passed) count_is ∙ ap (mark_by mark known.cr (len known.characters)) passed_is) in
+    let here : ℕ = len known.characters + one-if known.cr in
+    let now_here : now ≡ mark_by mark cut here (decoded - gone) = now_is ∙ (ap (λ (n : ℕ). mark_by mark cut n passed) count_is ∙ ap (mark_by mark cut here) passed_is) in
     subst (λ (k : KnownView). IsHeld total gone (decoded + used) (place + used) (len k.characters) front given k.cr now) (sym after_is) (record {
       from = omega (arith, is.from);
       within = within;
@@ -126,5 +128,5 @@ held-more known after cs mark now total gone decoded used place front given coun
       few = omega (arith, is.few, is.from, grows, read, few);
       marked = subst (λ (n : ℕ). IfSome now (IsMark (len (reading known cs).characters) n (reading known cs).cr)) (sym behind)
           (subst (λ (m : Option Mark). IfSome m (IsMark (len (reading known cs).characters) ((decoded - gone) + used) (reading known cs).cr)) (sym now_here)
-          (marked-more mark known.cr (reading known cs).cr (len known.characters) (len (reading known cs).characters) (decoded - gone) used (omega (arith, grows)) (omega (arith, grows, read, few)) is.marked));
+          (marked-more mark known.cr (reading known cs).cr cut (len known.characters) (len (reading known cs).characters) (decoded - gone) used (omega (arith, grows)) (λ apart. omega (arith, grows, given-alone known.newline known.cr cs (sym cut_is ∙ apart) holds)) (omega (arith, grows, read, few)) is.marked));
     })

@@ -11,7 +11,7 @@ use Rattle.py_plain.specs.Units.{Order, Unknown}
 use Rattle.py_plain.specs.Items.{Item, Ending, AtEnd, AtRange, AtCut, Walk, characters_of, refusal_of}
 use Rattle.py_plain.specs.Handlers.{Treatment, treatment, reads_texts}
 use Rattle.py_plain.specs.Pieces.{LooksAtRange, walk_at, items_before, place_behind, unused, unless_refused}
-use Rattle.py_plain.specs.NewlineRule.{read_so_far, read_all, translated_to}
+use Rattle.py_plain.specs.NewlineRule.{read_so_far, read_all, holds_after, translated_to}
 use Rattle.py_plain.proofs.Joining.{two}
 use Rattle.py_plain.proofs.Looking.{reading as looks_at}
 use Rattle.py_plain_text.specs.Rest.{Rest}
@@ -20,8 +20,10 @@ use Rattle.py_telling.proofs.Anywhere.{alike_anywhere}
 use Rattle.py_held_text.specs.declared.base.Mark.{Mark}
 use Rattle.py_held_text.specs.declared.base.BaseMove.{BaseMove}
 use Rattle.py_held_text.specs.Held.{HeldView, ahead, base_of, whole_of, comes_next, base_behind, given_on, left_with, left_so_far, read_until, left_surely}
-use Rattle.py_held_text.proofs.Marking.{either-mark, no-cr}
-use Rattle.py_held_text.specs.Decodes.{KeepsSettings, Passes, Decodes, IsStopped}
+use Rattle.py_held_text.proofs.Marking.{either-mark, no-cut}
+use Rattle.py_held_text.proofs.Alone.{behind-alone, given-alone}
+use Rattle.py_held_text.specs.Decodes.{KeepsSettings, known_with_cr, Passes, Gives, Decodes, IsStopped}
+use Rattle.py_held_text.specs.Known.{may_cut}
 use Rattle.py_held_text.specs.Bases.{from_base, rebased, with_gone, without, IsBack, KnowsBase, MarkStands, KnowsBases, SureBase, SureMark, SureBases, GaveSurely}
 use Rattle.py_held_text.proofs.Walking.{both-before}
 use Rattle.py_held_text.proofs.Given.{given-to-mark, given-past-mark, given-behind}
@@ -161,7 +163,11 @@ back-grows : (last : Bool) (old new : HeldView) → (decodes : Decodes last old 
 back-grows last old new decodes = omega (arith, ap length decodes.back, length-append old.back (take decodes.used old.bytes), length-take-le decodes.used old.bytes decodes.within)
 
 known-grows : (last : Bool) (old new : HeldView) → Decodes last old new → length old.known ≤ length new.known
-known-grows last old new decodes = omega (arith, ap length decodes.grows.1, length-append old.known decodes.grows.0)
+known-grows last old new decodes = omega (arith, ap length decodes.grows, length-append old.known (read_so_far old.newline old.cr decodes.came))
+
+-- also by the LF that a held CR is, where no LF goes with it
+released-grows : (last : Bool) (old new : HeldView) → (decodes : Decodes last old new) → may_cut old.cr decodes.came ≡ false → known_with_cr old ≤ length new.known
+released-grows last old new decodes apart = omega (arith, ap length decodes.grows, length-append old.known (read_so_far old.newline old.cr decodes.came), given-alone old.newline old.cr decodes.came apart decodes.holds)
 
 pub same-decoded : (last : Bool) (old new : HeldView) → Decodes last old new → SameBase old new
 same-decoded last old new decodes = record {
@@ -178,37 +184,35 @@ from-here held behind =
     ap (λ (p : ℕ). from-there held.encoding held.handler held.newline held.order p (drop (length held.back) (whole_of held)) held.room) place
     ∙ ap (λ (b : List ℕ). from-there held.encoding held.handler held.newline held.order held.place b held.room) (drop-append_seam held.back held.bytes)
 
--- what is left there, where no CR is held
-left-here : (held : HeldView) → IsBack held → held.cr ≡ false → (more : List ℕ) → left_with (from_base held (length held.back)) more ≡ without (length held.known) (left_with held more)
-left-here held behind none more =
+-- what is left there, behind the LF that a held CR is
+left-here : (held behind : HeldView) (came : List ℕ) → IsBack held → may_cut held.cr came ≡ false → holds_after held.newline held.cr [] ≡ held.cr → (more : List ℕ) → Gives true came held behind more → left_with (from_base held (length held.back)) more ≡ without (known_with_cr held) (left_with held more)
+left-here held behind came back apart holds more gives =
     let all : List ℕ = characters_of (ahead held true more).items in
     let stop : Option (ℕ × ℕ) = refusal_of (ahead held true more).ending in
-    ap (λ (own : HeldView). left_with own more) (from-here held behind)
-    ∙ (ap (λ (cr : Bool). rest-of (read_all held.newline cr all) stop) (sym none)
-    ∙ ap (λ (cs : List ℕ). rest-of cs stop) (sym (drop-append_seam held.known (read_all held.newline held.cr all))))
+    ap (λ (own : HeldView). left_with own more) (from-here held back)
+    ∙ ap (λ (cs : List ℕ). rest-of cs stop) (sym (behind-alone true held.newline held.cr held.known came (characters_of (ahead behind true more).items) all apart holds gives))
 
-surely-here : (held : HeldView) → IsBack held → held.cr ≡ false → (more : List ℕ) → left_surely (from_base held (length held.back)) more ≡ without (length held.known) (left_surely held more)
-surely-here held behind none more =
+surely-here : (held behind : HeldView) (came : List ℕ) → IsBack held → may_cut held.cr came ≡ false → holds_after held.newline held.cr [] ≡ held.cr → (more : List ℕ) → Gives false came held behind more → left_surely (from_base held (length held.back)) more ≡ without (known_with_cr held) (left_surely held more)
+surely-here held behind came back apart holds more gives =
     let all : List ℕ = characters_of (ahead held false more).items in
     let stop : Option (ℕ × ℕ) = refusal_of (ahead held false more).ending in
-    ap (λ (own : HeldView). left_surely own more) (from-here held behind)
-    ∙ (ap (λ (cr : Bool). rest-of (read_until (is_some stop) held.newline cr all) stop) (sym none)
-    ∙ ap (λ (cs : List ℕ). rest-of cs stop) (sym (drop-append_seam held.known (read_until (is_some stop) held.newline held.cr all))))
+    ap (λ (own : HeldView). left_surely own more) (from-here held back)
+    ∙ ap (λ (cs : List ℕ). rest-of cs stop) (sym (behind-alone (is_some stop) held.newline held.cr held.known came (characters_of (ahead behind false more).items) all apart holds gives))
 
 ahead-here : (held : HeldView) → IsBack held → (more : List ℕ) → ahead (from_base held (length held.back)) true more ≡ ahead held true more
 ahead-here held behind more = ap (λ (own : HeldView). ahead own true more) (from-here held behind)
 
 -- a mark that was set before bytes were decoded
-new-mark : (more : List ℕ) (last : Bool) (old new : HeldView) (gone : List ℕ) → (last ≡ true → more ≡ []) → IsBack old → old.cr ≡ false → Decodes last old new → KnowsBase more old gone → MarkStands more new (record { count = length old.known; passed = length old.back })
-new-mark more last old new gone ends behind none decodes is =
+new-mark : (more : List ℕ) (last : Bool) (old new : HeldView) (gone : List ℕ) → (last ≡ true → more ≡ []) → IsBack old → (decodes : Decodes last old new) → may_cut old.cr decodes.came ≡ false → KnowsBase more old gone → MarkStands more new (record { count = known_with_cr old; passed = length old.back })
+new-mark more last old new gone ends behind decodes apart is =
     let same = same-decoded last old new decodes in
     let there : ℕ = length old.back in
     let seen : ahead (from_base new there) true more ≡ ahead old true more = ahead-same old new there same more ∙ ahead-here old behind more in
     let items = decodes.items more ends in
     record {
-      count = known-grows last old new decodes;
+      count = released-grows last old new decodes apart;
       passed = omega (arith, back-grows last old new decodes);
-      left = left-same old new there same more ∙ (left-here old behind none more ∙ ap (without (length old.known)) (sym (decodes.left more ends)));
+      left = left-same old new there same more ∙ (left-here old new decodes.came behind apart decodes.holds more (decodes.gives more ends) ∙ ap (without (known_with_cr old)) (sym (decodes.left more ends)));
       before = (is.items.0, ahead-same old new 0 same more ∙ (is.items.1 ∙ ap (items_before is.items.0) (sym seen)));
       behind = (items.0, seen ∙ items.1);
     }
@@ -218,9 +222,9 @@ bases-decoded more last old new gone ends decodes is = record {
   back = omega (arith, back-grows last old new decodes, decodes.place, is.back);
   base = base-follows more old new gone (same-decoded last old new decodes) decodes.front decodes.given (decodes.left more ends) (decodes.items more ends) is.base;
   mark = subst (λ (mark : Option Mark). IfSome mark (MarkStands more new)) (sym decodes.mark)
-      (either-mark (MarkStands more new) ((old.cr || nat_eq (length old.back) 0) || comes_next old.mark) old.mark (record { count = length old.known; passed = length old.back })
+      (either-mark (MarkStands more new) ((may_cut old.cr decodes.came || nat_eq (length old.back) 0) || comes_next old.mark) old.mark (record { count = known_with_cr old; passed = length old.back })
       (marks-follow more old new old.mark (same-decoded last old new decodes) (known-grows last old new decodes) (omega (arith, back-grows last old new decodes)) (decodes.left more ends) (decodes.items more ends) is.mark)
-      (λ sets. new-mark more last old new gone ends is.back (no-cr old.cr (nat_eq (length old.back) 0) (comes_next old.mark) sets) decodes is.base));
+      (λ sets. new-mark more last old new gone ends is.back decodes (no-cut (may_cut old.cr decodes.came) (nat_eq (length old.back) 0) (comes_next old.mark) sets) is.base));
 }
 
 -- What is surely left.
@@ -289,11 +293,13 @@ sure-decoded old new reads decodes gave = λ more. ((gave more).0, by-bases more
           back = omega (arith, back-grows false old new decodes, decodes.place, is.back);
           base = sure-base more old new gone same decodes.front decodes.given left is.base;
           mark = subst (λ (mark : Option Mark). IfSome mark (SureMark more new)) (sym decodes.mark)
-              (either-mark (SureMark more new) ((old.cr || nat_eq (length old.back) 0) || comes_next old.mark) old.mark (record { count = length old.known; passed = length old.back })
+              (either-mark (SureMark more new) ((may_cut old.cr decodes.came || nat_eq (length old.back) 0) || comes_next old.mark) old.mark (record { count = known_with_cr old; passed = length old.back })
               (sure-mark more old new old.mark same (omega (arith, back-grows false old new decodes)) left is.mark)
               (λ sets. record {
                 passed = omega (arith, back-grows false old new decodes);
-                left = surely-same old new (length old.back) same more ∙ (surely-here old is.back (no-cr old.cr (nat_eq (length old.back) 0) (comes_next old.mark) sets) more ∙ ap (without (length old.known)) (sym left));
+                left =
+                    surely-same old new (length old.back) same more
+                    ∙ (surely-here old new decodes.came is.back (no-cut (may_cut old.cr decodes.came) (nat_eq (length old.back) 0) (comes_next old.mark) sets) decodes.holds more (decodes.gives_so_far refl more) ∙ ap (without (known_with_cr old)) (sym left));
               }));
         }
 

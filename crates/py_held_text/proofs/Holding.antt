@@ -29,9 +29,9 @@ use Rattle.py_held_text.specs.Held.{HeldView, mark_by}
 use Rattle.py_flat.specs.declared.fault.IoFault.{IoFault}
 use Rattle.py_held_text.specs.declared.held_stop.HeldStop.{HeldStop}
 use Rattle.py_held_text.specs.Decodes.{Decodes, IsDrained, RefusesNext, PartOutcome, DecodeOutcome}
-use Rattle.py_held_text.specs.Known.{KnownView, reading, IsPart}
+use Rattle.py_held_text.specs.Known.{KnownView, reading, may_cut, IsPart}
 use Rattle.py_held_text.proofs.Decoded.{IsAll, part-all, lacks-refused}
-use Rattle.py_held_text.proofs.Reading.{all-both, read-few}
+use Rattle.py_held_text.proofs.Reading.{all-both, one-if, read-few}
 use Rattle.py_held_text.proofs.Shifting.{shift-items, passes-there}
 use Rattle.py_held_text.proofs.Walking.{Leaves, rest-none, rest-ending, split, passed, part-left, still, precedes}
 
@@ -114,9 +114,9 @@ moved-so-far newline cr known cs whole behind is =
 abbrev pub held-by : Coder → KnownView → (front : ℕ) → List ℕ → (given : ℕ) → Option Mark → (ended : Bool) → List ℕ → (place room : ℕ) → HeldView
 held-by coder known front back given mark ended bytes place room = record { encoding = coder.encoding; handler = coder.errors; newline = known.newline; known = known.characters; cr = known.cr; front = front; back = back; given = given; mark = mark; ended = ended; bytes = bytes; place = place; order = Unknown; room = room }
 
--- the mark once more is decoded
-abbrev pub marked-by : Option Mark → KnownView → List ℕ → Option Mark
-marked-by mark known back = mark_by mark known.cr (len known.characters) (len back)
+-- the mark once more is decoded, by the characters that came
+abbrev pub marked-by : Option Mark → KnownView → (came : List ℕ) → (back : List ℕ) → Option Mark
+marked-by mark known came back = mark_by mark (may_cut known.cr came) (len known.characters + one-if known.cr) (len back)
 
 -- the decoding of some bytes alone
 abbrev pub whole-walk : Coder → Bool → List ℕ → Walk
@@ -139,8 +139,8 @@ part-items coder last want bytes = items_for want (whole-walk coder last bytes).
 leaves-by : (coder : Coder) (last : Bool) (want : ℕ) (bytes : List ℕ) (decoded : FrontDecoded) → PartDecoded coder last want bytes decoded → decoded.used ≤ len bytes → Leaves coder.encoding (treatment coder.errors coder.encoding) last bytes decoded.used (part-items coder last want bytes)
 leaves-by coder last want bytes decoded part within = record { within = within; goes_on = part.goes_on }
 
-decodes-here : (coder : Coder) (known : KnownView) (front : ℕ) (back : List ℕ) (given : ℕ) (mark : Option Mark) (ended : Bool) (bytes : List ℕ) (size place room more_room want : ℕ) (last : Bool) (decoded : FrontDecoded) → reads_texts coder.errors ≡ true → (last ≡ true → size ≡ len bytes) → PartDecoded coder last want (take size bytes) decoded → decoded.used ≤ len (take size bytes) → room ≤ more_room → Decodes last (held-by coder known front back given mark ended bytes place room) (held-by coder (reading known (characters_of (part-items coder last want (take size bytes)))) front (back ++ take decoded.used bytes) given (marked-by mark known back) (last || ended) (drop decoded.used bytes) (place + decoded.used) more_room)
-decodes-here coder known front back given mark ended bytes size place room more_room want last decoded reads all part within more =
+decodes-here : (coder : Coder) (known : KnownView) (front : ℕ) (back : List ℕ) (given : ℕ) (mark : Option Mark) (ended : Bool) (bytes : List ℕ) (size place room more_room want : ℕ) (last : Bool) (decoded : FrontDecoded) → reads_texts coder.errors ≡ true → holds_after known.newline known.cr [] ≡ known.cr → (last ≡ true → size ≡ len bytes) → PartDecoded coder last want (take size bytes) decoded → decoded.used ≤ len (take size bytes) → room ≤ more_room → Decodes last (held-by coder known front back given mark ended bytes place room) (held-by coder (reading known (characters_of (part-items coder last want (take size bytes)))) front (back ++ take decoded.used bytes) given (marked-by mark known (characters_of (part-items coder last want (take size bytes))) back) (last || ended) (drop decoded.used bytes) (place + decoded.used) more_room)
+decodes-here coder known front back given mark ended bytes size place room more_room want last decoded reads holds all part within more =
     let encoding : Encoding = coder.encoding in
     let treat : Treatment = treatment coder.errors encoding in
     let items : List Item = part-items coder last want (take size bytes) in
@@ -160,9 +160,11 @@ decodes-here coder known front back given mark ended bytes size place room more_
       whole = append_assoc back (take used bytes) rest ∙ ap (λ (t : List ℕ). back ++ t) (take-append-drop used bytes);
       front = refl;
       given = refl;
+      holds = holds;
+      came = cs;
       mark = refl;
       ended = refl;
-      grows = (read_so_far known.newline known.cr cs, refl);
+      grows = refl;
       few = omega (arith, read-few known.newline known.cr cs, length-append known.characters (read_so_far known.newline known.cr cs), part.few, part.chars);
       left = λ further none.
           let walks = precedes encoding treat (ignores coder.errors encoding) true place used (bytes ++ further) (rest ++ further) items (passes.whole further none) in
@@ -171,17 +173,19 @@ decodes-here coder known front back given mark ended bytes size place room more_
           let walks = precedes encoding treat (ignores coder.errors encoding) false place used (bytes ++ further) (rest ++ further) items (passes.so_far is further) in
           rest-same _ _ _ _ (moved-so-far known.newline known.cr known.characters cs _ _ walks.characters) (sym walks.refusal);
       items = λ further none. (shift-items place items, passes-there encoding treat (ignores coder.errors encoding) true place used (bytes ++ further) (rest ++ further) items (passes.whole further none));
+      gives = λ further none. (precedes encoding treat (ignores coder.errors encoding) true place used (bytes ++ further) (rest ++ further) items (passes.whole further none)).characters;
+      gives_so_far = λ is further. (precedes encoding treat (ignores coder.errors encoding) false place used (bytes ++ further) (rest ++ further) items (passes.so_far is further)).characters;
     }
 
 -- a decoding is what a text in hand does
-pub decodes-by : (coder : Coder) (known after : KnownView) (front : ℕ) (back back_now : List ℕ) (given : ℕ) (mark mark_now : Option Mark) (ended ended_now : Bool) (bytes rest : List ℕ) (size place room more_room want : ℕ) (last : Bool) (decoded : FrontDecoded) → reads_texts coder.errors ≡ true → (last ≡ true → size ≡ len bytes) → PartDecoded coder last want (take size bytes) decoded → after ≡ reading known (characters_of (part-items coder last want (take size bytes))) → decoded.used ≤ len (take size bytes) → rest ≡ drop decoded.used bytes → back_now ≡ back ++ take decoded.used bytes → mark_now ≡ marked-by mark known back → ended_now ≡ (last || ended) → room ≤ more_room → Decodes last (held-by coder known front back given mark ended bytes place room) (held-by coder after front back_now given mark_now ended_now rest (place + decoded.used) more_room)
-decodes-by coder known after front back back_now given mark mark_now ended ended_now bytes rest size place room more_room want last decoded reads all part after_is within rest_is back_is mark_is ended_is more =
+pub decodes-by : (coder : Coder) (known after : KnownView) (front : ℕ) (back back_now : List ℕ) (given : ℕ) (mark mark_now : Option Mark) (ended ended_now : Bool) (bytes rest : List ℕ) (size place room more_room want : ℕ) (last : Bool) (decoded : FrontDecoded) → reads_texts coder.errors ≡ true → holds_after known.newline known.cr [] ≡ known.cr → (last ≡ true → size ≡ len bytes) → PartDecoded coder last want (take size bytes) decoded → after ≡ reading known (characters_of (part-items coder last want (take size bytes))) → decoded.used ≤ len (take size bytes) → rest ≡ drop decoded.used bytes → back_now ≡ back ++ take decoded.used bytes → mark_now ≡ marked-by mark known (characters_of (part-items coder last want (take size bytes))) back → ended_now ≡ (last || ended) → room ≤ more_room → Decodes last (held-by coder known front back given mark ended bytes place room) (held-by coder after front back_now given mark_now ended_now rest (place + decoded.used) more_room)
+decodes-by coder known after front back back_now given mark mark_now ended ended_now bytes rest size place room more_room want last decoded reads holds all part after_is within rest_is back_is mark_is ended_is more =
     subst (λ (k : KnownView). Decodes last (held-by coder known front back given mark ended bytes place room) (held-by coder k front back_now given mark_now ended_now rest (place + decoded.used) more_room)) (sym after_is)
     (subst (λ (r : List ℕ). Decodes last (held-by coder known front back given mark ended bytes place room) (held-by coder (reading known (characters_of (part-items coder last want (take size bytes)))) front back_now given mark_now ended_now r (place + decoded.used) more_room)) (sym rest_is)
     (subst (λ (b : List ℕ). Decodes last (held-by coder known front back given mark ended bytes place room) (held-by coder (reading known (characters_of (part-items coder last want (take size bytes)))) front b given mark_now ended_now (drop decoded.used bytes) (place + decoded.used) more_room)) (sym back_is)
     (subst (λ (m : Option Mark). Decodes last (held-by coder known front back given mark ended bytes place room) (held-by coder (reading known (characters_of (part-items coder last want (take size bytes)))) front (back ++ take decoded.used bytes) given m ended_now (drop decoded.used bytes) (place + decoded.used) more_room)) (sym mark_is)
-    (subst (λ (e : Bool). Decodes last (held-by coder known front back given mark ended bytes place room) (held-by coder (reading known (characters_of (part-items coder last want (take size bytes)))) front (back ++ take decoded.used bytes) given (marked-by mark known back) e (drop decoded.used bytes) (place + decoded.used) more_room)) (sym ended_is)
-    (decodes-here coder known front back given mark ended bytes size place room more_room want last decoded reads all part within more)))))
+    (subst (λ (e : Bool). Decodes last (held-by coder known front back given mark ended bytes place room) (held-by coder (reading known (characters_of (part-items coder last want (take size bytes)))) front (back ++ take decoded.used bytes) given (marked-by mark known (characters_of (part-items coder last want (take size bytes))) back) e (drop decoded.used bytes) (place + decoded.used) more_room)) (sym ended_is)
+    (decodes-here coder known front back given mark ended bytes size place room more_room want last decoded reads holds all part within more)))))
 
 -- a part that is all
 pub all-of : (coder : Coder) (last : Bool) (want : ℕ) (bytes : List ℕ) (size : ℕ) (decoded : FrontDecoded) → size ≡ len bytes → PartDecoded coder last want (take size bytes) decoded → PartDecoded coder last want bytes decoded

@@ -8,7 +8,7 @@ use Rattle.py_plain.specs.declared.encoding.Encoding.{Encoding}
 use Rattle.py_plain.specs.declared.handler.Handler.{Handler}
 use Rattle.py_plain.specs.declared.newlines.Newlines.{Newlines}
 use Rattle.py_plain.specs.declared.newlines.Newlines.TheVariants as rule
-use Rattle.py_plain.specs.NewlineRule.{read_all}
+use Rattle.py_plain.specs.NewlineRule.{read_all, holds_after}
 use Rattle.py_plain.specs.Handlers.{reads_texts}
 use Rattle.py_plain.specs.Items.{characters_of}
 use Rattle.py_telling.specs.declared.walked.Walked.{Walked}
@@ -60,13 +60,13 @@ keeps-pushed coder known front gone decoded given place items now part mark ende
     (λ going. sure-put part (view_of coder known front gone decoded items given mark ended place 0) 0 (keeps going))))
 
 -- bytes were decoded
-pub moves-by : (coder : Coder) (known after : KnownView) (front gone from given : ℕ) (mark now : Option Mark) (ended ended_now : Bool) (items bytes : List ℕ) (size place room want : ℕ) (last : Bool) (decoded : FrontDecoded) → reads_texts coder.errors ≡ true → (last ≡ true → size ≡ len bytes) → PartDecoded coder last want (take size bytes) decoded → after ≡ reading known (characters_of (part-items coder last want (take size bytes))) → decoded.used ≤ len (take size bytes) → gone ≤ from → bytes ≡ drop from items → now ≡ marked-by mark known (back_of gone from items) → ended_now ≡ (last || ended) → Decodes last (view_of coder known front gone from items given mark ended place room) (view_of coder after front gone (from + decoded.used) items given now ended_now (place + decoded.used) room)
-moves-by coder known after front gone from given mark now ended ended_now items bytes size place room want last decoded reads all part after_is within behind bytes_are now_is ended_is =
+pub moves-by : (coder : Coder) (known after : KnownView) (front gone from given : ℕ) (mark now : Option Mark) (ended ended_now : Bool) (items bytes : List ℕ) (size place room want : ℕ) (last : Bool) (decoded : FrontDecoded) → reads_texts coder.errors ≡ true → holds_after known.newline known.cr [] ≡ known.cr → (last ≡ true → size ≡ len bytes) → PartDecoded coder last want (take size bytes) decoded → after ≡ reading known (characters_of (part-items coder last want (take size bytes))) → decoded.used ≤ len (take size bytes) → gone ≤ from → bytes ≡ drop from items → now ≡ marked-by mark known (characters_of (part-items coder last want (take size bytes))) (back_of gone from items) → ended_now ≡ (last || ended) → Decodes last (view_of coder known front gone from items given mark ended place room) (view_of coder after front gone (from + decoded.used) items given now ended_now (place + decoded.used) room)
+moves-by coder known after front gone from given mark now ended ended_now items bytes size place room want last decoded reads holds all part after_is within behind bytes_are now_is ended_is =
     let new : HeldView = view_of coder after front gone (from + decoded.used) items given now ended_now (place + decoded.used) room in
     let rest : List ℕ = drop (from + decoded.used) items in
     let rest_is : rest ≡ drop decoded.used bytes = sym (drop-drop decoded.used from items) ∙ ap (drop decoded.used) (sym bytes_are) in
     subst (λ (b : List ℕ). Decodes last (held-by coder known front (back_of gone from items) given mark ended b place room) new) bytes_are
-    (decodes-by coder known after front (back_of gone from items) (back_of gone (from + decoded.used) items) given mark now ended ended_now bytes rest size place room room want last decoded reads all part after_is within rest_is (back-more gone from decoded.used items bytes behind bytes_are) now_is ended_is (omega arith))
+    (decodes-by coder known after front (back_of gone from items) (back_of gone (from + decoded.used) items) given mark now ended ended_now bytes rest size place room room want last decoded reads holds all part after_is within rest_is (back-more gone from decoded.used items bytes behind bytes_are) now_is ended_is (omega arith))
 
 pub keeps-decoded : (last : Bool) (old new : HeldView) → reads_texts old.handler ≡ true → Decodes last old new → KeepsSure old → KeepsSure new
 keeps-decoded true old new reads decodes keeps = λ going. absurd (true≢false (sym decodes.ended ∙ going))

@@ -9,6 +9,7 @@ pub mod Reading
 pub mod Walking
 pub mod Shifting
 pub mod Marking
+pub mod Alone
 pub mod Backing
 pub mod Given
 pub mod Bases

@@ -7,13 +7,13 @@ pub either-mark : (Holds : Mark → Type 0) (stays : Bool) (mark : Option Mark) 
 either-mark Holds true mark new old fresh = old
 either-mark Holds false mark new old fresh = fresh refl
 
--- no CR was held where a mark was set
-pub no-cr : (cr none next : Bool) → ((cr || none) || next) ≡ false → cr ≡ false
-no-cr true none next sets = sets
-no-cr false none next sets = refl
+-- no mark was set inside a CR LF
+pub no-cut : (cut none next : Bool) → ((cut || none) || next) ≡ false → cut ≡ false
+no-cut true none next sets = sets
+no-cut false none next sets = refl
 
--- nor was it set at the base
-pub not-base : (cr : Bool) (back : ℕ) (next : Bool) → ((cr || nat_eq back 0) || next) ≡ false → 1 ≤ back
+-- nor was one set at the base
+pub not-base : (cut : Bool) (back : ℕ) (next : Bool) → ((cut || nat_eq back 0) || next) ≡ false → 1 ≤ back
 not-base true back next sets = absurd (true≢false sets)
 not-base false zero next sets = absurd (true≢false sets)
 not-base false (suc back) next sets = omega arith

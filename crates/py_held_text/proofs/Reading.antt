@@ -27,7 +27,7 @@ holds-still newline held cs = sym (holds-both newline held cs []) ∙ ap (holds_
 abbrev pub one-if : Bool → ℕ
 one-if b = if b then 1 else 0
 
-released-length : (held : Bool) → length (released held) ≡ one-if held
+pub released-length : (held : Bool) → length (released held) ≡ one-if held
 released-length true = refl
 released-length false = refl
 

@@ -2,11 +2,13 @@
 use Rattle.std.specs.Prelude.{◌≡◌, ℕ, ◌+◌, ◌*◌, ◌^◌, ◌<◌, ◌≤◌, Bool, true, false, ◌||◌, List, [], ◌++◌, length, take, drop, Option, Some, None, Result, Ok, Err, if◌then◌else◌}
 use Rattle.py_flat.specs.declared.fault.IoFault.{IoFault}
 use Rattle.py_flat.specs.declared.fault.IoFault.TheVariants.{NoMemory}
-use Rattle.py_plain.specs.Items.{Item, AtRange, ends, refusal_of}
+use Rattle.py_plain.specs.Items.{Item, AtRange, ends, characters_of, refusal_of}
+use Rattle.py_plain.specs.NewlineRule.{read_so_far, holds_after}
 use Rattle.py_plain.specs.Pieces.{items_before}
 use Rattle.py_held_text.specs.declared.held_stop.HeldStop.{HeldStop}
 use Rattle.py_held_text.specs.declared.held_stop.HeldStop.TheVariants.{Drained, Refused}
 use Rattle.py_held_text.specs.Held.{HeldView, ahead, mark_by, whole_of, left_with, left_so_far}
+use Rattle.py_held_text.specs.Known.{may_cut}
 
 -- how bytes are read stays
 pub record KeepsSettings (old new : HeldView) : Type 0 where
@@ -22,10 +24,16 @@ known_with_cr held = length held.known + (if held.cr then 1 else 0)
 abbrev pub Passes : (before behind : HeldView) → List ℕ → Type 0
 Passes before behind more = (items : List Item) × (ahead before true more ≡ items_before items (ahead behind true more))
 
--- Some bytes in hand were used, and what is known has grown by what they gave: at most six characters for each of them. What is left
--- stays, whatever bytes come behind those in hand, none where these are the last; the place behind the bytes that were used is a boundary
--- between items. The base stays, and the front before it, and those bytes stand behind it; a mark is set where there was none. A decoding
--- of the last bytes is remembered
+-- some characters are decoded of one, and then those of another, whatever comes behind as both have it; `last` says that none come behind
+-- that
+abbrev pub Gives : (last : Bool) → (came : List ℕ) → (before behind : HeldView) → List ℕ → Type 0
+Gives last came before behind more = characters_of (ahead before last more).items ≡ came ++ characters_of (ahead behind last more).items
+
+-- Some bytes in hand were used, and what is known has grown by what the rule gives of the characters that came: at most six for each of
+-- them. What is left stays, whatever bytes come behind those in hand, none where these are the last; the place behind the bytes that were
+-- used is a boundary between items. The base stays, and the front before it, and those bytes stand behind it. The mark is set where those
+-- bytes begin, behind what was known and the LF that a held CR is: a CR is held only where the rule holds one, and this is no place for a
+-- mark where an LF goes with the CR, or nothing came that tells whether one does. A decoding of the last bytes is remembered
 pub record Decodes (last : Bool) (old new : HeldView) : Type 0 where
   pub settings : KeepsSettings old new
   pub used : ℕ
@@ -38,13 +46,17 @@ pub record Decodes (last : Bool) (old new : HeldView) : Type 0 where
   pub whole : whole_of new ≡ whole_of old
   pub front : new.front ≡ old.front
   pub given : new.given ≡ old.given
-  pub mark : new.mark ≡ mark_by old.mark old.cr (length old.known) (length old.back)
+  pub holds : holds_after old.newline old.cr [] ≡ old.cr
+  pub came : List ℕ
+  pub mark : new.mark ≡ mark_by old.mark (may_cut old.cr came) (known_with_cr old) (length old.back)
   pub ended : new.ended ≡ (last || old.ended)
-  pub grows : (more : List ℕ) × (new.known ≡ old.known ++ more)
+  pub grows : new.known ≡ old.known ++ read_so_far old.newline old.cr came
   pub few : known_with_cr new ≤ known_with_cr old + 6 * used
   pub left : (more : List ℕ) → (last ≡ true → more ≡ []) → left_with new more ≡ left_with old more
   pub so_far : last ≡ false → (more : List ℕ) → left_so_far new more ≡ left_so_far old more
   pub items : (more : List ℕ) → (last ≡ true → more ≡ []) → Passes old new more
+  pub gives : (more : List ℕ) → (last ≡ true → more ≡ []) → Gives true came old new more
+  pub gives_so_far : last ≡ false → (more : List ℕ) → Gives false came old new more
 
 -- no item stands in hand, and no refused range; where nothing comes behind, there are no bytes
 pub record IsDrained (last : Bool) (held : HeldView) : Type 0 where

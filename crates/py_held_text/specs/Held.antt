@@ -72,10 +72,10 @@ abbrev pub comes_next : Option Mark → Bool
 comes_next None = false
 comes_next (Some mark) = nat_eq mark.count 0
 
--- the mark once more is decoded, by how many characters are known and how many bytes stand between the base and here: it is set here,
--- unless that is the base, or a CR is held whose byte is decoded, or the base moves to the mark that there is with the next character
-abbrev pub mark_by : Option Mark → (cr : Bool) → (count passed : ℕ) → Option Mark
-mark_by mark cr count passed = if (cr || nat_eq passed 0) || comes_next mark then mark else Some (record { count = count; passed = passed })
+-- the mark once more is decoded, by how many characters are known here and how many bytes stand between the base and here: it is set here,
+-- unless this may be inside a CR LF, as `cut` says, or is the base, or the base moves to the mark that there is with the next character
+abbrev pub mark_by : Option Mark → (cut : Bool) → (count passed : ℕ) → Option Mark
+mark_by mark cut count passed = if (cut || nat_eq passed 0) || comes_next mark then mark else Some (record { count = count; passed = passed })
 
 -- where the base stands once n characters more were given: where one of them stands behind the mark, there, and then no known character
 -- stands before it; else where it stood, and those of the front don't count as given since

@@ -1,5 +1,6 @@
 -- A text that is known, of which a front was given.
-use Rattle.std.specs.Prelude.{◌≡◌, ◌≤◌, ◌<◌, ◌-◌, ◌*◌, ◌^◌, ℕ, Bool, List, [], ◌++◌, true, false, length, drop, chars, IsCharBoundary}
+use Rattle.std.specs.Prelude.{◌≡◌, ◌≤◌, ◌<◌, ◌-◌, ◌*◌, ◌^◌, ℕ, nat_eq, Bool, List, [], ◌∷◌, ◌++◌, true, false, length, drop, chars, IsCharBoundary}
+use Rattle.py_flat.specs.Lines.{lf}
 use Rattle.py_plain.specs.declared.newlines.Newlines.{Newlines}
 use Rattle.py_plain.specs.Items.{Walk, characters_of}
 use Rattle.py_plain.specs.Pieces.{items_before}
@@ -25,6 +26,12 @@ pub record IsKnown (newline : Newlines) (bytes : List ℕ) (given count searched
 -- the universal rule changes nothing in some characters, of which `plain` says that no CR is among them
 abbrev pub IsPlain : List ℕ → (plain : Bool) → Type 0
 IsPlain cs plain = plain ≡ true → (universal false cs ≡ cs) × (ends_held false cs ≡ false)
+
+-- whether the place behind a CR that is held may be inside a CR LF, by the characters that came behind it: none came, or an LF first
+abbrev pub may_cut : (cr : Bool) → List ℕ → Bool
+may_cut false came = false
+may_cut true [] = true
+may_cut true (c ∷ came) = nat_eq c lf
 
 -- a text after some characters more, by its rule
 abbrev pub reading : KnownView → List ℕ → KnownView

@@ -35,13 +35,12 @@ fn comes_next(mark: Option<Mark>) -> bool
     }
 }
 
-/// The mark once more is decoded, where so many characters are known and so many bytes stand between the base and here; `cr` says
-/// that a CR is held. None is set behind a CR that is held, and so a text of which every decoding begins behind one keeps its bytes:
-/// nothing bounds them yet.
-pub(crate) fn next_mark(mark: Option<Mark>, cr: bool, count: usize, passed: usize) -> Option<Mark>
-    ensures { result ≡ mark_by mark cr count passed }
+/// The mark once more is decoded, where so many characters are known and so many bytes stand between the base and here; `cut` says
+/// that this may be inside a CR LF. None is set there.
+pub(crate) fn next_mark(mark: Option<Mark>, cut: bool, count: usize, passed: usize) -> Option<Mark>
+    ensures { result ≡ mark_by mark cut count passed }
 {
-    if cr || passed == 0 || comes_next(mark) {
+    if cut || passed == 0 || comes_next(mark) {
         return mark;
     }
     Some(Mark { count, passed })

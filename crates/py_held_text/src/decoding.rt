@@ -6,7 +6,7 @@ ghost use Rattle.py_plain.specs.NewlineRule.{read_so_far, holds_after};
 ghost use Rattle.py_codec.specs.Answers.{text_of};
 ghost use Rattle.py_codec.specs.Decoding.{walk_here};
 ghost use Rattle.py_codec.specs.Front.{items_for};
-ghost use Rattle.py_held_text.specs.Known.{IsPart, IsPlain};
+ghost use Rattle.py_held_text.specs.Known.{may_cut, IsPart, IsPlain};
 
 use memchr::memchr;
 use py_codec::{FrontDecoded, IoFault, Steps, front_text};
@@ -120,6 +120,13 @@ fn append(text: &mut String, more: String) -> Result<(), AllocError>
     Ok(())
 }
 
+/// Whether the place behind a CR that is held may be inside a CR LF, by the text that came behind it: none did, or an LF first.
+fn may_cut(cr: bool, came: &str) -> bool
+    ensures { result ≡ may_cut cr (chars came.now) }
+{
+    cr && (came.is_empty() || came.as_bytes()[0] == b'\n')
+}
+
 /// What a decoding came to.
 #[derive(Clone, Copy)]
 pub(crate) struct Decoded {
@@ -129,6 +136,9 @@ pub(crate) struct Decoded {
     pub chars: usize,
     /// Whether a CR is held behind them.
     pub cr: bool,
+    /// Whether the place where it began may be inside a CR LF: a CR is held before it, and no other character than an LF came
+    /// right behind that.
+    pub cut: bool,
 }
 
 /// Appends what a rule gives of the characters that some bytes begin with, up to the first place between two items where
@@ -156,14 +166,23 @@ pub(crate) fn decode_by(
     ensures holds { IfOk result (λ decoded.
         let cs = characters_of (items_for want (walk_here coder.encoding (treatment coder.errors coder.encoding) last bytes.now 0).items) in
         decoded.cr ≡ holds_after newline cr cs) }
+    ensures cut { IfOk result (λ decoded.
+        let cs = characters_of (items_for want (walk_here coder.encoding (treatment coder.errors coder.encoding) last bytes.now 0).items) in
+        decoded.cut ≡ may_cut cr cs) }
     ensures within { IfOk result (λ decoded. decoded.front.used ≤ length bytes.now) }
     ensures memory { IfErr result (λ why. why ≡ IoFault.NoMemory) }
     ensures same { OnErr result (text_of text.new ≡ text_of text.old) }
 {
     let (raw, front) = counted_front::<Brand>(Blank::new(1), alloc, coder, bytes, want, last)?;
     let size = raw.len();
+    let cut = may_cut(cr, &raw);
     let (read, cr) = by_rule(alloc, newline, cr, raw)?;
     let chars = front.chars + read.len() - size;
     append(text, read)?;
-    Ok(Decoded { front, chars, cr })
+    Ok(Decoded {
+        front,
+        chars,
+        cr,
+        cut,
+    })
 }

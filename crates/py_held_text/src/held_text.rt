@@ -27,8 +27,8 @@ use std::marker::Model;
 /// characters that were given since; so where the text stands is told by what is in hand. While no character was given
 /// since it was made or cleared, the base is where it began, and all can be read anew by other settings. The base moves
 /// on with what is given, so that what is in hand doesn't grow with the stream, but over bytes that give no character, and
-/// over CR alone under the universal rule. Where the text was put inside an item, the base is behind that item, and the first
-/// of the known characters, the front, stand before the base.
+/// where every decoding begins inside a CR LF. Where the text was put inside an item, the base is behind that item, and the
+/// first of the known characters, the front, stand before the base.
 ///
 /// Contracts see the settings, the known characters, whether a CR is held behind them (under the universal rule, until
 /// the next character releases it), how many of them stand before the base, the bytes that were decoded since the base, the
@@ -302,20 +302,16 @@ impl HeldText {
         requires some { 1 ≤ want }
         ensures { PartOutcome last size want self.old result self.new }
     {
-        let mark = next_mark(
-            self.mark,
-            self.known.holds_cr(),
-            self.known.len(),
-            self.decoded - self.gone,
-        );
+        let count = self.known.len_with_cr();
         let ended = is_ended(last, self.ended);
         let bytes = behind(&self.bytes, self.decoded);
         let is_all = size == bytes.len();
-        let front = self
+        let decoded = self
             .known
             .decode(alloc, self.coder, &bytes[..size], want, last)?;
+        let front = decoded.front;
         let from = self.place;
-        self.mark = mark;
+        self.mark = next_mark(self.mark, decoded.cut, count, self.decoded - self.gone);
         self.ended = ended;
         self.decoded += front.used;
         self.place += front.used as u64;

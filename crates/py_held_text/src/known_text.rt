@@ -1,18 +1,19 @@
-ghost use Rattle.std.specs.Prelude.{◌≡◌, ◌++◌, ◌≤◌, true, false, [], length, take, drop, string_bytes, option_map, IfOk, IfErr, IfSome, OnOk, OnErr};
+ghost use Rattle.std.specs.Prelude.{◌≡◌, ◌++◌, ◌+◌, ◌≤◌, true, false, [], length, take, drop, string_bytes, option_map, IfOk, IfErr, IfSome, OnOk, OnErr, if◌then◌else◌};
 ghost use Rattle.std.specs.String.{string_len};
 ghost use Rattle.py_plain.specs.Handlers.{treatment, reads_texts};
 ghost use Rattle.py_plain.specs.Items.{characters_of};
+ghost use Rattle.py_plain.specs.NewlineRule.{holds_after};
 ghost use Rattle.py_codec.specs.Answers.{text_of};
 ghost use Rattle.py_codec.specs.Decoding.{walk_here};
 ghost use Rattle.py_codec.specs.Front.{items_for};
 ghost use Rattle.py_held_text.specs.Finding.{IsFrontOf, answer_of, enough, enough_before};
-ghost use Rattle.py_held_text.specs.Known.{KnownView, reading, ended, IsPart};
+ghost use Rattle.py_held_text.specs.Known.{KnownView, reading, ended, may_cut, IsPart};
 
 use crate::Wanted;
-use crate::decoding::decode_by;
+use crate::decoding::{Decoded, decode_by};
 use crate::line_search::{ended_line, last_line, limited_line, line_front, may_go_on};
 use py_blocks::{TextFront, front_of};
-use py_codec::{FrontDecoded, IoFault};
+use py_codec::IoFault;
 use py_plain::Newlines;
 use py_text::Coder;
 use std::alloc::{AllocError, Global};
@@ -95,11 +96,12 @@ impl KnownText {
         self.count
     }
 
-    /// Whether a CR is held behind them.
-    pub fn holds_cr(&self) -> bool
-        ensures { result ≡ self.now.cr }
+    /// How many they are with the LF that a held CR is by itself. A CR is held only where the rule holds one.
+    pub fn len_with_cr(&self) -> usize
+        ensures count { result ≡ length self.now.characters + (if self.now.cr then 1 else 0) }
+        ensures holds { holds_after self.now.newline self.now.cr [] ≡ self.now.cr }
     {
-        self.cr
+        if self.cr { self.count + 1 } else { self.count }
     }
 
     /// Lets go of all, and reads by a rule from here on.
@@ -161,7 +163,7 @@ impl KnownText {
     }
 
     /// Reads the characters that some bytes begin with, up to the first place between two items where as many as are wanted were
-    /// given.
+    /// given. It tells, too, whether those bytes may begin inside a CR LF.
     pub fn decode(
         &mut self,
         alloc: Global,
@@ -169,15 +171,18 @@ impl KnownText {
         bytes: &[u8],
         want: usize,
         last: bool,
-    ) -> Result<FrontDecoded, IoFault>
+    ) -> Result<Decoded, IoFault>
         requires reads { reads_texts coder.errors ≡ true }
-        ensures part { IfOk result (λ front.
+        ensures part { IfOk result (λ decoded.
             let behind = walk_here coder.encoding (treatment coder.errors coder.encoding) last bytes.now in
-            IsPart want (behind 0) behind front) }
+            IsPart want (behind 0) behind decoded.front) }
         ensures reading { OnOk result (
             let walk = walk_here coder.encoding (treatment coder.errors coder.encoding) last bytes.now 0 in
             self.new ≡ reading self.old (characters_of (items_for want walk.items))) }
-        ensures within { IfOk result (λ front. front.used ≤ length bytes.now) }
+        ensures cut { IfOk result (λ decoded.
+            let walk = walk_here coder.encoding (treatment coder.errors coder.encoding) last bytes.now 0 in
+            decoded.cut ≡ may_cut self.old.cr (characters_of (items_for want walk.items))) }
+        ensures within { IfOk result (λ decoded. decoded.front.used ≤ length bytes.now) }
         ensures memory { IfErr result (λ why. why ≡ IoFault.NoMemory) }
         ensures same { OnErr result (self.new ≡ self.old) }
     {
@@ -194,7 +199,7 @@ impl KnownText {
         )?;
         self.count += decoded.chars;
         self.cr = decoded.cr;
-        Ok(decoded.front)
+        Ok(decoded)
     }
 
     /// Gives an LF for a held CR.

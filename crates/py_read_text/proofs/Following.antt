@@ -11,7 +11,8 @@ use Rattle.py_held_text.specs.Held.{HeldView, ahead, comes_next, left_with, left
 use Rattle.py_held_text.specs.declared.base.Mark.{Mark}
 use Rattle.py_held_text.specs.declared.held_stop.HeldStop.{HeldStop}
 use Rattle.py_held_text.specs.declared.held_stop.HeldStop.TheVariants as stops
-use Rattle.py_held_text.specs.Decodes.{Decodes, IsDrained, StoppedAt}
+use Rattle.py_held_text.specs.Decodes.{known_with_cr, Decodes, IsDrained, StoppedAt}
+use Rattle.py_held_text.specs.Known.{may_cut}
 use Rattle.py_held_text.proofs.Bases.{same-decoded, bases-decoded, bases-follow}
 use Rattle.py_read_text.specs.Knowing.{HasFront}
 use Rattle.py_read_text.specs.Reading.{Coming, Follows}
@@ -146,10 +147,10 @@ set_front false front count passed mark among marked = among
 
 decoded_front : (last : Bool) (old new : HeldView) → Decodes last old new → HasFront old → HasFront new
 decoded_front last old new decodes has = record {
-  among = omega (arith, has.among, decodes.front, ap length decodes.grows.1, length-append old.known decodes.grows.0);
+  among = omega (arith, has.among, decodes.front, ap length decodes.grows, length-append old.known (read_so_far old.newline old.cr decodes.came));
   marked = subst (λ (front : ℕ). IfSome new.mark (λ (own : Mark). front ≤ own.count)) (sym decodes.front)
       (subst (λ (mark : Option Mark). IfSome mark (λ (own : Mark). old.front ≤ own.count)) (sym decodes.mark)
-      (set_front ((old.cr || nat_eq (length old.back) 0) || comes_next old.mark) old.front (length old.known) (length old.back) old.mark has.among has.marked));
+      (set_front ((may_cut old.cr decodes.came || nat_eq (length old.back) 0) || comes_next old.mark) old.front (known_with_cr old) (length old.back) old.mark (omega (arith, has.among)) has.marked));
 }
 
 -- bytes behind which more may come were decoded
@@ -179,7 +180,7 @@ so_far_empty held none = ap (λ (items : List Item). held.known ++ read_so_far h
 -- the last bytes were decoded, of which none gave anything while more might come
 pub decoded_last : (old new : HeldView) → IsDrained false old → Decodes true old new → Follows (Coming true) old new
 decoded_last old new drained decodes =
-    let grows : length old.known ≤ length new.known = omega (arith, ap length decodes.grows.1, length-append old.known decodes.grows.0) in
+    let grows : length old.known ≤ length new.known = omega (arith, ap length decodes.grows, length-append old.known (read_so_far old.newline old.cr decodes.came)) in
     record {
       settings = decodes.settings;
       stands = decoded_stands true old new decodes;

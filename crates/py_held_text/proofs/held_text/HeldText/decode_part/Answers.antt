@@ -1,50 +1,52 @@
-use Rattle.std.proofs.Common.{◌≡◌, ◌+◌, ◌-◌, ◌≤◌, Result, Ok, Option, Some, None, Bool, true, length, take, drop, vec_len, vec_capacity, refl, sym, ap, subst, ◌∙◌, arith}
+use Rattle.std.proofs.Common.{◌≡◌, ◌+◌, ◌-◌, ◌≤◌, Result, Ok, ℕ, List, Option, Some, None, true, length, take, drop, vec_len, vec_capacity, refl, sym, ap, subst, ◌∙◌, arith}
 use Rattle.std.proofs.lemmas.List.{length-drop, length-take, drop-drop}
 use Rattle.py_flat.specs.declared.fault.IoFault.{IoFault}
 use Rattle.py_held_text.specs.declared.held_stop.HeldStop.{HeldStop}
 use Rattle.py_held_text.specs.declared.held_stop.HeldStop.TheVariants as stop
-use Rattle.py_held_text.specs.Held.{HeldView, view_of, back_of, mark_by}
+use Rattle.py_plain.specs.Items.{characters_of}
+use Rattle.py_held_text.specs.Held.{HeldView, view_of, back_of}
 use Rattle.py_held_text.specs.Known.{KnownView}
 use Rattle.py_held_text.specs.Decodes.{PartOutcome}
 use Rattle.py_held_text.proofs.Decoded.{part-all, lacks-drained, lacks-refused, lacks-none}
 use Rattle.py_held_text.proofs.Backing.{back-length, held-more}
 use Rattle.py_held_text.proofs.Keeping.{moves-by, keeps-decoded, walked-known, kept-known}
-use Rattle.py_held_text.proofs.Holding.{refused-within, marked-by, drained-by, refuses-by, all-of}
+use Rattle.py_held_text.proofs.Holding.{refused-within, marked-by, part-items, drained-by, refuses-by, all-of}
 use Rattle.py_held_text.proofs.held_text.HeldText.decode_part.Goals.{in-Refused, in-Drained+then-is_all, in-Drained+else-is_all, in-Wanted}
 use Rattle.py_held_text.proofs.held_text.HeldText.decode_part.Goals as goal
 
 pub overflow_add-result : goal.overflow_add-result
 overflow_add-result c =
-    let range = refused-within c.self.inside.coder c.args.last c.args.want (take c.args.size c.behind-bytes.result.now) c.in_ok-front.front c.in-Refused.start c.in-Refused.end c.in_ok-front.ensures.part c.in-Refused.is in
+    let range = refused-within c.self.inside.coder c.args.last c.args.want (take c.args.size c.behind-bytes.result.now) c.in_ok-decoded.decoded.front c.in-Refused.start c.in-Refused.end c.in_ok-decoded.ensures.part c.in-Refused.is in
     omega (arith, range.0, range.1, c.self.invariant.1.within, c.self.invariant.1.near, length-take c.args.size c.behind-bytes.result.now, ap length c.behind-bytes.ensures, length-drop c.self.inside.decoded c.deref.result.now, c.deref.ensures.len)
 
 pub overflow_add-result-in-Refused : goal.overflow_add-result-in-Refused
 overflow_add-result-in-Refused c =
-    let range = refused-within c.self.inside.coder c.args.last c.args.want (take c.args.size c.behind-bytes.result.now) c.in_ok-front.front c.in-Refused.start c.in-Refused.end c.in_ok-front.ensures.part c.in-Refused.is in
+    let range = refused-within c.self.inside.coder c.args.last c.args.want (take c.args.size c.behind-bytes.result.now) c.in_ok-decoded.decoded.front c.in-Refused.start c.in-Refused.end c.in_ok-decoded.ensures.part c.in-Refused.is in
     omega (arith, range.0, range.1, c.self.invariant.1.within, c.self.invariant.1.near, length-take c.args.size c.behind-bytes.result.now, ap length c.behind-bytes.ensures, length-drop c.self.inside.decoded c.deref.result.now, c.deref.ensures.len)
 
 pub invariant_of-self : goal.invariant_of-self
 invariant_of-self c =
     let inside = c.self.inside in
-    kept-known inside.coder inside.known c.decode.new.self inside.front inside.gone inside.decoded (vec_len inside.bytes) inside.bytes.items inside.given inside.mark inside.ended inside.place inside.walked c.in_err-front.ensures.same c.self.invariant
+    kept-known inside.coder inside.known c.decode.new.self inside.front inside.gone inside.decoded (vec_len inside.bytes) inside.bytes.items inside.given inside.mark inside.ended inside.place inside.walked c.in_err-decoded.ensures.same c.self.invariant
 
 pub invariant_of-self-2 : goal.invariant_of-self-2
 invariant_of-self-2 c =
     let inside = c.self.inside in
     let bytes = c.behind-bytes.result.now in
-    let used = c.in_ok-front.front.used in
-    let within : inside.decoded + used ≤ vec_len inside.bytes = omega (arith, c.in_ok-front.ensures.within, c.self.invariant.1.within, length-take c.args.size bytes, ap length c.behind-bytes.ensures, length-drop inside.decoded c.deref.result.now, c.deref.ensures.len) in
+    let used = c.in_ok-decoded.decoded.front.used in
+    let within : inside.decoded + used ≤ vec_len inside.bytes = omega (arith, c.in_ok-decoded.ensures.within, c.self.invariant.1.within, length-take c.args.size bytes, ap length c.behind-bytes.ensures, length-drop inside.decoded c.deref.result.now, c.deref.ensures.len) in
     let bytes_are : bytes ≡ drop inside.decoded inside.bytes.items = c.behind-bytes.ensures ∙ ap (drop inside.decoded) c.deref.ensures.value in
-    let now_is : c.next_mark-mark.result ≡ marked-by inside.mark inside.known (back_of inside.gone inside.decoded inside.bytes.items) = c.next_mark-mark.ensures ∙ rw (c.holds_cr.ensures, c.len.ensures, back-length inside.gone inside.decoded inside.bytes.items c.self.invariant.1.from (omega (arith, c.self.invariant.1.within, inside.bytes.ok))) refl in
+    let came : List ℕ = characters_of (part-items inside.coder c.args.last c.args.want (take c.args.size bytes)) in
+    let now_is : c.next_mark-self-inside.result ≡ marked-by inside.mark inside.known came (back_of inside.gone inside.decoded inside.bytes.items) = c.next_mark-self-inside.ensures ∙ rw (c.in_ok-decoded.ensures.cut, c.len_with_cr-count.ensures.count, back-length inside.gone inside.decoded inside.bytes.items c.self.invariant.1.from (omega (arith, c.self.invariant.1.within, inside.bytes.ok))) refl in
     let seen : c.args.self.now.bytes ≡ bytes = ap (λ (held : HeldView). held.bytes) (sym c.self.view_is) ∙ sym bytes_are in
     let all : c.args.last ≡ true → c.args.size ≡ length bytes = λ last. c.requires.all last ∙ ap length seen in
-    let moves = moves-by inside.coder inside.known c.decode.new.self inside.front inside.gone inside.decoded inside.given inside.mark c.next_mark-mark.result inside.ended c.is_ended-ended.result inside.bytes.items bytes c.args.size inside.place 0 c.args.want c.args.last c.in_ok-front.front c.self.invariant.0.0 all c.in_ok-front.ensures.part c.in_ok-front.ensures.reading c.in_ok-front.ensures.within c.self.invariant.1.from bytes_are now_is c.is_ended-ended.ensures in (
+    let moves = moves-by inside.coder inside.known c.decode.new.self inside.front inside.gone inside.decoded inside.given inside.mark c.next_mark-self-inside.result inside.ended c.is_ended-ended.result inside.bytes.items bytes c.args.size inside.place 0 c.args.want c.args.last c.in_ok-decoded.decoded.front c.self.invariant.0.0 c.len_with_cr-count.ensures.holds all c.in_ok-decoded.ensures.part c.in_ok-decoded.ensures.reading c.in_ok-decoded.ensures.within c.self.invariant.1.from bytes_are now_is c.is_ended-ended.ensures in (
       (
         c.self.invariant.0.0,
         keeps-decoded c.args.last _ _ c.self.invariant.0.0 moves c.self.invariant.0.1,
-        walked-known inside.coder inside.known c.decode.new.self inside.gone inside.given inside.bytes.items inside.walked (ap (λ (known : KnownView). known.newline) c.in_ok-front.ensures.reading) c.self.invariant.0.2,
+        walked-known inside.coder inside.known c.decode.new.self inside.gone inside.given inside.bytes.items inside.walked (ap (λ (known : KnownView). known.newline) c.in_ok-decoded.ensures.reading) c.self.invariant.0.2,
       ),
-      held-more inside.known c.decode.new.self _ inside.mark c.next_mark-mark.result (vec_len inside.bytes) inside.gone inside.decoded used inside.place inside.front inside.given _ _ c.self.invariant.1 c.in_ok-front.ensures.reading (omega (arith, c.in_ok-front.ensures.part.few, c.in_ok-front.ensures.part.chars)) within (c.next_mark-mark.ensures ∙ ap (λ (cr : Bool). mark_by inside.mark cr c.len.result (inside.decoded - inside.gone)) c.holds_cr.ensures) c.len.ensures refl,
+      held-more inside.known c.decode.new.self came inside.mark c.next_mark-self-inside.result c.in_ok-decoded.decoded.cut (vec_len inside.bytes) inside.gone inside.decoded used inside.place inside.front inside.given _ _ c.self.invariant.1 c.len_with_cr-count.ensures.holds c.in_ok-decoded.ensures.reading (omega (arith, c.in_ok-decoded.ensures.part.few, c.in_ok-decoded.ensures.part.chars)) within c.next_mark-self-inside.ensures c.in_ok-decoded.ensures.cut c.len_with_cr-count.ensures.count refl,
     )
 
 pub returns : goal.returns
@@ -55,7 +57,7 @@ returns c =
     let items = c.self.inside.bytes.items in
     let from = c.self.inside.decoded in
     let bytes = c.behind-bytes.result.now in
-    let decoded = c.in_ok-front.front in
+    let decoded = c.in_ok-decoded.decoded.front in
     let rest = drop (from + decoded.used) items in
     let front = c.self.inside.front in
     let gone = c.self.inside.gone in
@@ -64,18 +66,19 @@ returns c =
     let ended = c.self.inside.ended in
     let ended_now = c.is_ended-ended.result in
     let back_now = back_of gone (from + decoded.used) items in
-    let part = c.in_ok-front.ensures.part in
-    let within : decoded.used ≤ length (take c.args.size bytes) = c.in_ok-front.ensures.within in
+    let part = c.in_ok-decoded.ensures.part in
+    let within : decoded.used ≤ length (take c.args.size bytes) = c.in_ok-decoded.ensures.within in
     let room = vec_capacity c.self.inside.bytes - vec_len c.self.inside.bytes in
     let place = c.self.inside.place in
     let bytes_are : bytes ≡ drop from items = c.behind-bytes.ensures ∙ ap (drop from) c.deref.ensures.value in
     let rest_is : rest ≡ drop decoded.used bytes = sym (drop-drop decoded.used from items) ∙ ap (drop decoded.used) (sym bytes_are) in
-    let now = c.next_mark-mark.result in
-    let now_is : now ≡ marked-by mark known (back_of gone from items) = c.next_mark-mark.ensures ∙ rw (c.holds_cr.ensures, c.len.ensures, back-length gone from items c.self.invariant.1.from (omega (arith, c.self.invariant.1.within, c.self.inside.bytes.ok))) refl in
+    let now = c.next_mark-self-inside.result in
+    let came : List ℕ = characters_of (part-items coder c.args.last c.args.want (take c.args.size bytes)) in
+    let now_is : now ≡ marked-by mark known came (back_of gone from items) = c.next_mark-self-inside.ensures ∙ rw (c.in_ok-decoded.ensures.cut, c.len_with_cr-count.ensures.count, back-length gone from items c.self.invariant.1.from (omega (arith, c.self.invariant.1.within, c.self.inside.bytes.ok))) refl in
     let seen : c.args.self.now.bytes ≡ bytes = ap (λ (held : HeldView). held.bytes) (sym c.self.view_is) ∙ sym bytes_are in
     let all : c.args.last ≡ true → c.args.size ≡ length bytes = λ last. c.requires.all last ∙ ap length seen in
     let new : HeldView = view_of coder after front gone (from + decoded.used) items given now ended_now (place + decoded.used) room in
-    let moves = moves-by coder known after front gone from given mark now ended ended_now items bytes c.args.size place room c.args.want c.args.last decoded c.self.invariant.0.0 all part c.in_ok-front.ensures.reading within c.self.invariant.1.from bytes_are now_is c.is_ended-ended.ensures in
+    let moves = moves-by coder known after front gone from given mark now ended ended_now items bytes c.args.size place room c.args.want c.args.last decoded c.self.invariant.0.0 c.len_with_cr-count.ensures.holds all part c.in_ok-decoded.ensures.reading within c.self.invariant.1.from bytes_are now_is c.is_ended-ended.ensures in
     let shown : (result : Result (Option HeldStop) IoFault) → PartOutcome c.args.last c.args.size c.args.want (view_of coder known front gone from items given mark ended place room) result new → PartOutcome c.args.last c.args.size c.args.want c.args.self.now result new = λ result outcome.
     subst (λ (old : HeldView). PartOutcome c.args.last c.args.size c.args.want old result new) c.self.view_is outcome in
     elim c.match-front.branch [
