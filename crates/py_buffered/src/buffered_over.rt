@@ -255,6 +255,14 @@ impl<R: RawStream, K: BufferedKind> BufferedStream for BufferedOver<R, K> {
         BufferedStream::flush(&mut self.inner)
     }
 
+    fn prepare_flush(&mut self) -> Result<(), IoFault> {
+        BufferedStream::prepare_flush(&mut self.inner)
+    }
+
+    fn take_back(&mut self, count: usize) -> bool {
+        BufferedStream::take_back(&mut self.inner, count)
+    }
+
     fn close(&mut self) -> Result<(), IoFault> {
         BufferedStream::close(&mut self.inner)
     }

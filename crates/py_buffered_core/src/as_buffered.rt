@@ -3,7 +3,7 @@ ghost use Rattle.std.specs.Prelude.{◌≡◌, false};
 ghost use Rattle.py_flat.specs.Calls.{Read1, Write, Seek, Tell, Flush, Close};
 ghost use Rattle.py_stream.specs.Replies.{bytes_reply, count_reply, place_reply, done_reply};
 ghost use Rattle.py_stream.specs.Answers.{Answers};
-ghost use Rattle.py_stream.specs.Buffer.{TellsPlace, AnswersEnd, AnswersAsBuffer};
+ghost use Rattle.py_stream.specs.Buffer.{TellsPlace, AnswersEnd, AnswersAsBuffer, Prepares, TakesBack};
 ghost use Rattle.py_buffered_core.specs.Buffered.{seen_of, as_buffer};
 
 use crate::Buffered;
@@ -76,6 +76,22 @@ impl<R: RawStream> BufferedStream for Buffered<R> {
     {
         let _ = self.place();
         Buffered::flush(self)
+    }
+
+    fn prepare_flush(&mut self) -> Result<(), IoFault>
+        ensures prepares { Prepares (as_buffer self.old) result (as_buffer self.new) }
+        ensures can { (seen_of self.new).can ≡ (seen_of self.old).can }
+        ensures taken { self.new.taken ≡ self.old.taken }
+    {
+        Buffered::prepare_flush(self)
+    }
+
+    fn take_back(&mut self, count: usize) -> bool
+        ensures takes { TakesBack (as_buffer self.old) count result (as_buffer self.new) }
+        ensures can { (seen_of self.new).can ≡ (seen_of self.old).can }
+        ensures taken { self.new.taken ≡ self.old.taken }
+    {
+        Buffered::take_back(self, count)
     }
 
     fn close(&mut self) -> Result<(), IoFault>

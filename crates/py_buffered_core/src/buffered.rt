@@ -7,7 +7,7 @@ ghost use Rattle.py_stream.specs.Answers.{Answers, RefusesAlone};
 ghost use Rattle.py_stream.specs.Stream.{size_of};
 ghost use Rattle.py_stream.specs.Replies.{bytes_reply, into_reply, CountFits, KeepsBuffer, KeepsUnread, look_reply, lines_reply, count_reply, place_reply, done_reply};
 ghost use Rattle.py_stream.specs.Taken.{taken_of};
-ghost use Rattle.py_stream.specs.Buffer.{buffer_of, OwesAsItCan, TellsPlace, AnswersEnd};
+ghost use Rattle.py_stream.specs.Buffer.{buffer_of, OwesAsItCan, TellsPlace, AnswersEnd, Prepares, TakesBack};
 ghost use Rattle.py_stream.specs.Opening.{StandsAtStart, MayOpen, NewOutcome, opened_as};
 ghost use Rattle.py_stream.specs.Handing.{DetachOutcome, PartsOutcome, LendsRaw};
 ghost use Rattle.py_buffered_core.specs.Buffered.{seen_of, as_buffer, held_of, BeginsDetach};
@@ -358,6 +358,30 @@ impl<R: RawStream> Buffered<R> {
         match &mut self.data {
             Some(data) => data.flush(),
             None => Err(IoFault::Detached),
+        }
+    }
+
+    /// Sees to it that the raw stands where a flush begins to write.
+    pub fn prepare_flush(&mut self) -> Result<(), IoFault>
+        ensures prepares { Prepares (as_buffer self.old) result (as_buffer self.new) }
+        ensures can { (seen_of self.new).can ≡ (seen_of self.old).can }
+        ensures taken { self.new.taken ≡ self.old.taken }
+    {
+        match &mut self.data {
+            Some(data) => data.prepare_flush(),
+            None => Err(IoFault::Detached),
+        }
+    }
+
+    /// Takes back the last n bytes that are owed, and answers whether it did.
+    pub fn take_back(&mut self, count: usize) -> bool
+        ensures takes { TakesBack (as_buffer self.old) count result (as_buffer self.new) }
+        ensures can { (seen_of self.new).can ≡ (seen_of self.old).can }
+        ensures taken { self.new.taken ≡ self.old.taken }
+    {
+        match &mut self.data {
+            Some(data) => data.take_back(count),
+            None => false,
         }
     }
 

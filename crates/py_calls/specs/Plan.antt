@@ -153,6 +153,16 @@ buffer_of (kind.Text text) = Some text.buffer_size
 buffer_of (kind.Buffered size) = Some size
 buffer_of kind.Bare = None
 
+-- what a plan's text decodes and encodes by; none of a stream of bytes
+abbrev pub coder_in : PlanKind → Option Coder
+coder_in (kind.Text text) = Some text.coder
+coder_in other = None
+
+-- the settings of a plan's text besides; none of a stream of bytes
+abbrev pub settings_in : PlanKind → Option TextSettings
+settings_in (kind.Text text) = Some text.settings
+settings_in other = None
+
 -- an accepted plan, which can be opened, and what it leaves of the registry
 pub record Accepts {S H : Type 0} (finds : S → List ℕ → Option (PyCodec S)) (before : Machine S H) (mode : List ℕ) (args : OpenArgs) (plan : OpenPlan) (new : Machine S H) : Type 0 where
   pub planned : plan_of finds before mode args ≡ Ok plan

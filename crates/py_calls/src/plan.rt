@@ -1,7 +1,7 @@
 //! What a mode and arguments set up, decided before any raw stream is asked.
 ghost use Rattle.std.specs.Prelude.{◌≡◌};
 ghost use Rattle.py_plain.specs.NewlineArgument.{rule_of};
-ghost use Rattle.py_calls.specs.Plan.{buffer_size_of, gives_text_argument, has_bad_argument, refused_early, bytes_kind, buffer_of, PlanOutcome};
+ghost use Rattle.py_calls.specs.Plan.{buffer_size_of, gives_text_argument, has_bad_argument, refused_early, bytes_kind, buffer_of, coder_in, settings_in, PlanOutcome};
 ghost use Rattle.py_calls.specs.Planned.{TextOutcome};
 
 use crate::open_args::{encoding_name, handler_name};
@@ -57,6 +57,35 @@ pub struct OpenPlan {
     pub mode: Mode,
     /// What is opened: a text, a stream of bytes through a buffer, or the bare raw.
     pub kind: PlanKind,
+}
+
+impl OpenPlan {
+    /// The size of the buffer in bytes; `None` of a bare raw.
+    pub fn buffer_size(&self) -> Option<usize>
+        ensures { result ≡ buffer_of self.now.kind }
+    {
+        self.kind.buffer_size()
+    }
+
+    /// What a text decodes and encodes by; `None` of a stream of bytes.
+    pub fn coder(&self) -> Option<Coder>
+        ensures { result ≡ coder_in self.now.kind }
+    {
+        match self.kind {
+            PlanKind::Text(text) => Some(text.coder),
+            PlanKind::Buffered(_) | PlanKind::Bare => None,
+        }
+    }
+
+    /// The settings of a text besides; `None` of a stream of bytes.
+    pub fn settings(&self) -> Option<TextSettings>
+        ensures { result ≡ settings_in self.now.kind }
+    {
+        match self.kind {
+            PlanKind::Text(text) => Some(text.settings),
+            PlanKind::Buffered(_) | PlanKind::Bare => None,
+        }
+    }
 }
 
 /// The buffer's size that a `buffering` asks for; `None` is unbuffered.

@@ -7,10 +7,10 @@ use Rattle.py_raw.specs.RawStream.{NoWait, Raw, tells as tells_of, Keeps, StaysO
 use Rattle.py_raw.proofs.ReadingOn.{no_wait_then, no_fault_then}
 use Rattle.py_stream.specs.Stream.{Stream}
 use Rattle.py_stream.specs.Keeping.{IsSound}
-use Rattle.py_stream.specs.Writing.{OwesBehind, NoneAtPlace}
+use Rattle.py_stream.specs.Writing.{OwesBehind, NoneAtPlace, HasJust}
 use Rattle.py_stream.specs.Taking.{Took, FailsTaking, Lacks}
 use Rattle.py_stream.specs.Settling.{PassesJust, LivesOn, SettleOutcome, PassesSome, FailsBack}
-use Rattle.py_stream.proofs.PassingOn.{just_none, just_then, just_some, just_passes, just_took, some_fails, laid_there, lays_some, passes_nothing, moves_still, settles_then}
+use Rattle.py_stream.proofs.PassingOn.{just_none, just_then, just_some, just_passes, just_passed, just_took, some_fails, laid_there, lays_some, passes_nothing, moves_still, settles_then}
 use Rattle.py_stream.proofs.Taking.{waited_then, waits_once_then, faulted_then, keeps_itself, keeps_then, answers_still}
 use Rattle.py_engine.specs.declared.data.passing_on.Passed.TheVariants as passing
 use Rattle.py_engine.specs.Passing.{StandsAtOwed, DrainOutcome, FlushOutcome, FailsPassing, WaitsPassing, OwedOutcome, StandsHere, StandsHereOutcome, AlignsOutcome, PassesAll}
@@ -81,7 +81,7 @@ passes_refused old now new why so never = absurd never
 
 -- a stream that passed on just what the raw answered for lives on
 pub lives_on : (old new : Stream) → PassesJust old new → LivesOn old new
-lives_on old new just = record { passes = just_passes old new just; live = just.live; no_fault = just.no_fault }
+lives_on old new just = record { passes = just_passes old new just; live = just.live; no_fault = just.no_fault; just = just_passed old new just.passed just.within just.owed just.told }
 
 -- a wait is remembered
 lives_waiting : (old new : Stream) → PassesJust old new → LivesOn old (record (record new { short = true }) { short = old.short })
@@ -332,7 +332,7 @@ stays_itself engine is = passes_nothing (stream_of engine) (stream_of engine) (r
 
 -- nothing was passed on
 lives_itself : (old : Stream) → old.life ≡ life.Live → PassesSome old old → LivesOn old old
-lives_itself old live passes = record { passes = passes; live = live; no_fault = λ _. refl }
+lives_itself old live passes = record { passes = passes; live = live; no_fault = λ _. refl; just = λ tells. ap (λ (count : ℕ). lay old.raw.bytes old.owed.place (take count old.owed.bytes)) (let none : 0 ≡ length old.owed.bytes - length old.owed.bytes = omega arith in none) }
 
 -- an engine that owes nothing has nothing to pass on
 pub settles_nothing : (engine : EngineView) → Stands engine → engine.life ≡ life.Live → (stream_of engine).owed.bytes ≡ [] → SettleOutcome (stream_of engine) (Ok tt) (stream_of engine)
@@ -354,9 +354,16 @@ none_behind old mid passes none behind = grind arith
 passes_here : (old mid new : Stream) → PassesSome old mid → mid.owed.bytes ≡ [] → StandsHere mid new → PassesSome old new
 passes_here old mid new passes none here = grind (arith, keeps_then, answers_still, none_behind, tells_its_bytes)
 
+-- told, the raw has just that still
+just_here : (old mid new : Stream) → LivesOn old mid → StandsHere mid new → HasJust old new
+just_here old mid new goes here tells =
+    here.bytes (tells_its_bytes mid.raw (tells_still old.raw mid.raw goes.passes.kept.raw ∙ tells))
+    ∙ (goes.just tells
+    ∙ ap (λ (owed : Owed). lay old.raw.bytes old.owed.place (take (length old.owed.bytes - length owed.bytes) old.owed.bytes)) (sym here.owed))
+
 pub settles_here : (old mid new : Stream) → SettleOutcome old (Ok tt) mid → StandsHere mid new → SettleOutcome old (Ok tt) new
 settles_here old mid new settled here = (
-  record { passes = passes_here old mid new settled.0.passes settled.2 here; live = here.life_is ∙ settled.0.live; no_fault = no_fault_then old.raw mid.raw new.raw settled.0.passes.kept.raw settled.0.no_fault here.counts.no_fault },
+  record { passes = passes_here old mid new settled.0.passes settled.2 here; live = here.life_is ∙ settled.0.live; no_fault = no_fault_then old.raw mid.raw new.raw settled.0.passes.kept.raw settled.0.no_fault here.counts.no_fault; just = just_here old mid new settled.0 here },
   no_wait_then old.raw mid.raw new.raw settled.0.passes.kept.raw settled.1 here.counts.no_wait,
   ap (λ (owed : Owed). owed.bytes) here.owed ∙ settled.2,
 )

@@ -9,8 +9,8 @@ use Rattle.py_stream.specs.declared.access.Access.TheVariants as access
 use Rattle.py_stream.specs.Access.{is_written}
 use Rattle.py_window.specs.Window.{WindowView, IsWindow, place_of, pending_of, room_of, pushed, emptied_at, cut_within, cut_at, flat_over, HoldsBytes}
 use Rattle.py_engine.specs.Engine.{HoldsRead, OwesBefore, HasShape}
-use Rattle.py_window.proofs.Collecting.{Shows, pending_length, cut_shows}
-use Rattle.py_window.proofs.Overlaying.{overlays}
+use Rattle.py_window.proofs.Collecting.{cut_shows}
+use Rattle.py_window.proofs.Overlaying.{overlays, pending_many}
 
 -- a stream that owes what ends at its place has the shape of each that is written
 pub behind_shape : (opened : Access) (raw_place : ℕ) (window : WindowView) → is_written opened ≡ true → IsWindow window → OwesBefore raw_place window → HasShape opened raw_place window
@@ -52,25 +52,25 @@ held_up_to raw owed held begin from many some within fits holds =
     ∙ (sym (take-take (from + many) (length held) (drop begin (lay raw place owed)) fits)
     ∙ ap (take (from + many)) holds)))
 
--- cut back to a place among what is owed
-holds_within : (raw : List ℕ) (end : ℕ) (window : WindowView) (shows : Shows window window.size (window.begin + window.from) (pending_of window)) → window.begin + window.from < end → end ≤ place_of window → pending_of (cut_within end window) ≡ take (end - (window.begin + window.from)) (pending_of window) → HoldsBytes (flat_over raw window) window → HoldsBytes (flat_over raw (cut_within end window)) (cut_within end window)
-holds_within raw end window shows behind within pending holds =
+-- cut back to a place among what is owed, which ends at the place; whatever was held behind that
+holds_within : (raw : List ℕ) (end : ℕ) (window : WindowView) → IsWindow window → window.to ≡ window.cursor → window.begin + window.from < end → end ≤ place_of window → pending_of (cut_within end window) ≡ take (end - (window.begin + window.from)) (pending_of window) → HoldsBytes (flat_over raw window) window → HoldsBytes (flat_over raw (cut_within end window)) (cut_within end window)
+holds_within raw end window is to behind within pending holds =
     let many : ℕ = end - (window.begin + window.from) in
     let count : ℕ = end - window.begin in
-    let long : length (take count window.held) ≡ count = length-take-le count window.held (omega (arith, within, shows.is.cursor)) in
+    let long : length (take count window.held) ≡ count = length-take-le count window.held (omega (arith, within, is.cursor)) in
     let same : count ≡ window.from + many = omega (arith, behind) in
     ap (λ (owed : List ℕ). take (length (take count window.held)) (left_at (lay raw (window.begin + window.from) owed) window.begin)) pending
     ∙ (ap (λ (n : ℕ). take n (left_at (lay raw (window.begin + window.from) (take many (pending_of window))) window.begin)) (long ∙ same)
-    ∙ (held_up_to raw (pending_of window) window.held window.begin window.from many (omega (arith, behind)) (omega (arith, within, pending_length window shows.collects)) (omega (arith, within, shows.is.cursor, behind)) holds
+    ∙ (held_up_to raw (pending_of window) window.held window.begin window.from many (omega (arith, behind)) (omega (arith, within, pending_many window is, to)) (omega (arith, within, is.cursor, behind)) holds
     ∙ ap (λ (n : ℕ). take n window.held) (sym same)))
 
-pub holds_cut : (opened : Access) (raw : List ℕ) (end : ℕ) (window : WindowView) → is_written opened ≡ true → Shows window window.size (window.begin + window.from) (pending_of window) → window.begin + window.from ≤ end → end ≤ place_of window → HoldsRead opened raw window → HoldsRead opened raw (cut_at end window)
-holds_cut access.Read raw end window writes shows behind within holds = absurd (cc)
-holds_cut access.Update raw end window writes shows behind within holds = ⊎_elim
+pub holds_cut : (opened : Access) (raw : List ℕ) (end : ℕ) (window : WindowView) → is_written opened ≡ true → IsWindow window → window.to ≡ window.cursor → window.begin + window.from ≤ end → end ≤ place_of window → HoldsRead opened raw window → HoldsRead opened raw (cut_at end window)
+holds_cut access.Read raw end window writes is to behind within holds = absurd (cc)
+holds_cut access.Update raw end window writes is to behind within holds = ⊎_elim
     (λ (beyond : window.begin + window.from < end).
     let other = ne_eqb end (window.begin + window.from) (λ same. absurd (omega (arith, beyond, same))) in
-    let pending : pending_of (cut_within end window) ≡ take (end - (window.begin + window.from)) (pending_of window) = subst (λ (same : Bool). pending_of (if same then emptied_at end window else cut_within end window) ≡ take (end - (window.begin + window.from)) (pending_of window)) other (cut_shows window end window.size (window.begin + window.from) (pending_of window) behind within shows).bytes_are in
-    subst (λ (same : Bool). HoldsBytes (flat_over raw (if same then emptied_at end window else cut_within end window)) (if same then emptied_at end window else cut_within end window)) (sym other) (holds_within raw end window shows beyond within pending holds))
+    let pending : pending_of (cut_within end window) ≡ take (end - (window.begin + window.from)) (pending_of window) = subst (λ (same : Bool). pending_of (if same then emptied_at end window else cut_within end window) ≡ take (end - (window.begin + window.from)) (pending_of window)) other (cut_shows window end is to behind within).bytes_are in
+    subst (λ (same : Bool). HoldsBytes (flat_over raw (if same then emptied_at end window else cut_within end window)) (if same then emptied_at end window else cut_within end window)) (sym other) (holds_within raw end window is to beyond within pending holds))
     (λ (there : end ≤ window.begin + window.from). subst (λ (same : Bool). HoldsBytes (flat_over raw (if same then emptied_at end window else cut_within end window)) (if same then emptied_at end window else cut_within end window)) (sym (eq-eqb end (window.begin + window.from) (omega (arith, there, behind)))) refl)
     (cases_lt (window.begin + window.from) end)
-holds_cut other raw end window writes shows behind within holds = tt
+holds_cut other raw end window writes is to behind within holds = tt

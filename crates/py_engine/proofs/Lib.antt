@@ -7,6 +7,7 @@ pub mod Reading
 pub mod SingleReading
 pub mod Standing
 pub mod Draining
+pub mod Preparing
 pub mod Pushing
 pub mod Random
 pub mod RandomWriting

@@ -177,9 +177,9 @@ took_given old raw bytes count is writes live none keeps stays far some wrote =
 -- the engine after what it owed was cut back to a place
 pub cut_step : (old : EngineView) (start : ℕ) → Stands old → IsBehind old → (stream_of old).owed.place ≤ start → start ≤ place_of old.window → Stepped old (record old { window = cut_at start old.window }) (stream_of old).owed.place (take (start - (stream_of old).owed.place) (pending_of old.window))
 cut_step old start is writes behind within = steps_on old old.raw old.raw_place (cut_at start old.window) (stream_of old).owed.place (take (start - (stream_of old).owed.place) (pending_of old.window)) is writes (keeps_same old.raw) refl (λ tells. refl)
-    (cut_shows old.window start old.window.size (stream_of old).owed.place (pending_of old.window) behind within (shows_now old is writes))
+    (cut_shows old.window start is.window_is writes.owes.collects.to behind within)
     writes.owes.stands (stands_there old is writes)
-    (λ tells lives. holds_cut old.access old.raw.bytes start old.window writes.writes (shows_now old is writes) behind within (is.told tells lives))
+    (λ tells lives. holds_cut old.access old.raw.bytes start old.window writes.writes is.window_is writes.owes.collects.to behind within (is.told tells lives))
 
 -- the stream drops what it owes from a place on
 pub cut_back : (old : EngineView) (start : ℕ) → Stands old → IsBehind old → (stream_of old).owed.place ≤ start → start ≤ place_of old.window → CutsBack start (stream_of old) (stream_of (record old { window = cut_at start old.window }))

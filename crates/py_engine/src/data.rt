@@ -19,6 +19,7 @@ mod random;
 mod random_writing;
 mod reading;
 mod single;
+mod taking_back;
 mod writing;
 
 use py_raw::{IoFault, Life, RawStream};

@@ -107,6 +107,7 @@ write_owes items place was taken bytes =
         owed = sym (drop_all (length bytes) (take (length bytes) bytes) (omega (arith, ap length all)));
         up_to = inl refl;
         told = λ told. (length bytes, omega arith, omega arith, ap (lay items place) (sym all));
+        just = λ lives behind told. ap (lay items place) (sym (take_all (length bytes) (take (length bytes) bytes) (omega (arith, ap length all)) ∙ all));
       };
     }
 
@@ -123,7 +124,7 @@ seek_calmly lent items place was offset whence target far accepts goes_to goes s
 
 flush_calmly : (lent : Bool) (items : List ℕ) (place was : ℕ) → place ≤ greatest_place → Calmly (file_in_memory items place false) lent was Flush Done (file_in_memory items place false) was
 flush_calmly lent items place was far =
-    calmly_by lent false false items items place place was was Flush Done refl refl (unlent lent (Some fault.BufferError) None) (λ twice. absurd (cc)) refl (record { life_is = refl; place = refl; far = far; within = tt }) tt (tt, tt) (settled refl) (λ reads. absurd (cc)) (λ closes. refl) (owes_still (file_in_memory items place false) (file_in_memory items place false) lent Flush was was (λ writing. absurd (cc))) (lays_none _ _ _ _) (record { none = refl; holds = λ told. refl }, λ writes. refl) tt
+    calmly_by lent false false items items place place was was Flush Done refl refl (unlent lent (Some fault.BufferError) None) (λ twice. absurd (cc)) refl (record { life_is = refl; place = refl; far = far; within = tt }) tt (tt, tt) (settled refl) (λ reads. absurd (cc)) (λ closes. refl) (owes_still (file_in_memory items place false) (file_in_memory items place false) lent Flush was was (λ writing. absurd (cc))) (lays_none _ _ _ _) (record { none = refl; holds = λ told. refl }, λ writes. record { ends = omega arith; stands = refl }) tt
 
 close_calmly : (closed : Bool) (items : List ℕ) (place was : ℕ) → place ≤ greatest_place → Calmly (file_in_memory items place closed) false was Close Done (file_in_memory items place true) was
 close_calmly true items place was far =

@@ -117,6 +117,7 @@ calm file lent was call reply left taken calmly =
       takes = calmly.takes;
       taken = calmly.counts;
       passes = calmly.passes;
+      behind = λ stood reads some. absurd (some refl);
     }
 
 -- Refusals.
@@ -143,10 +144,11 @@ gives_refused : (buffering : Buffering) (call : FileCall) (why : IoFault) → Gi
 gives_refused buffering (Read1 size) why = tt
 gives_refused buffering call why = tt
 
-passes_refused : (before after : Buffer) (call : FileCall) (why : IoFault) → BufferPasses before call (Refused why) after
-passes_refused before after Flush why = tt
-passes_refused before after Close why = tt
-passes_refused before after call why = tt
+passes_refused : (file : FlatFile) (lent : Bool) (was taken : ℕ) (call : FileCall) (why : IoFault) → BufferPasses (buffer_with file lent was) call (Refused why) (buffer_with file lent taken)
+passes_refused file lent was taken Flush fault.NoMemory = λ told. refl
+passes_refused file lent was taken Flush why = tt
+passes_refused file lent was taken Close why = tt
+passes_refused file lent was taken call why = tt
 
 quiet_refused : (why : IoFault) → blames why ≡ false → says_fault (Refused why) ≡ false
 quiet_refused fault.RawFault own = absurd (cc)
@@ -172,6 +174,6 @@ refusedly file lent was call why taken unfailed writes own counts far only once 
   stays = λ closes. refl;
   owes = owes_still file file lent call was taken (λ writing. (refl, refl));
   lays = lays_none _ _ _ _;
-  passes = passes_refused (buffer_with file lent was) (buffer_with file lent taken) call why;
+  passes = passes_refused file lent was taken call why;
   takes = takes_none call file.place;
 }

@@ -289,14 +289,14 @@ back_from was at bytes here reach lives able forward is =
     same_by was at bytes (refusal was (text.SeekText bytes (pos zero))) here_back.0 here_back.1
 
 -- a text with the parts of another is that one, put elsewhere
-put_elsewhere : (was now : TextFile) → now.bytes ≡ was.bytes → now.can ≡ was.can → now.settings ≡ was.settings → now.life ≡ was.life → now ≡ placed was now.place
+pub put_elsewhere : (was now : TextFile) → now.bytes ≡ was.bytes → now.can ≡ was.can → now.settings ≡ was.settings → now.life ≡ was.life → now ≡ placed was now.place
 put_elsewhere was now bytes can settings current =
     ap (λ (b : List ℕ). let file : TextFile = record now { bytes = b } in file) bytes
     ∙ (ap (λ (c : Abilities). let file : TextFile = record now { bytes = was.bytes; can = c } in file) can
     ∙ (ap (λ (s : TextSettings). let file : TextFile = record now { bytes = was.bytes; can = was.can; settings = s } in file) settings
     ∙ ap (λ (l : Life). let file : TextFile = record now { bytes = was.bytes; can = was.can; settings = was.settings; life = l } in file) current))
 
-left_whole : (was is : Life) (file : TextFile) → was ≡ life.Live → is ≡ life.Live → left_exactly was is file ≡ file
+pub left_whole : (was is : Life) (file : TextFile) → was ≡ life.Live → is ≡ life.Live → left_exactly was is file ≡ file
 left_whole life.Live life.Live file first second = refl
 left_whole life.Live life.Failed file first second = refl
 left_whole life.Live life.Closed file first second = refl

@@ -38,7 +38,7 @@ none_of_both [] behind none = (refl, none)
 none_of_both (byte ∷ front) behind none = absurd (cc)
 
 -- a session that owes nothing has the bytes of its file in its raw
-owed_none : (session : SessionView) → owed_of session ≡ [] → bytes_in (file_seen session) ≡ (raw_of session).bytes
+pub owed_none : (session : SessionView) → owed_of session ≡ [] → bytes_in (file_seen session) ≡ (raw_of session).bytes
 owed_none (TextSession view) none =
     let both = none_of_both view.text.buffer.owed.bytes view.text.owed none in
     ap (λ (own : List ℕ). lay (lay view.text.buffer.raw.bytes view.text.buffer.owed.place view.text.buffer.owed.bytes) view.text.buffer.place own) both.1

@@ -22,3 +22,4 @@ pub mod OpenedFile
 pub mod IoOpening
 pub mod Sizes
 pub mod Back
+pub mod ReadBack

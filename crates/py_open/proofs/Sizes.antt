@@ -235,7 +235,7 @@ all_alike one other (made ∷ calls) [] others left right alike lives none here 
 all_alike one other [] [] (replied ∷ others) left right alike lives none here there = absurd there
 all_alike one other (made ∷ calls) (reply ∷ replies) [] left right alike lives none here there = absurd there
 
-life_seen : (session : SessionView) → life_in (file_seen session) ≡ life_of session
+pub life_seen : (session : SessionView) → life_in (file_seen session) ≡ life_of session
 life_seen (TextSession text) = refl
 life_seen (BinarySession stream) = refl
 

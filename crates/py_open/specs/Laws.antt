@@ -1,9 +1,9 @@
 -- What holds of whole runs, whatever raw is below.
-use Rattle.std.specs.Prelude.{◌≡◌, ◌≢◌, ◌⊎◌, ◌≤◌, Bool, true, false, IsTrue, ℕ, zero, pos, List, [], ◌∷◌, length, Option, None, is_some}
+use Rattle.std.specs.Prelude.{◌≡◌, ◌≢◌, ◌⊎◌, ◌+◌, ◌≤◌, Bool, true, false, IsTrue, ℕ, zero, pos, List, [], ◌∷◌, length, Option, None, is_some}
 use Rattle.py_flat.specs.declared.fault.IoFault.TheVariants as fault
 use Rattle.py_flat.specs.declared.life.Life.{Life}
 use Rattle.py_flat.specs.declared.life.Life.TheVariants as life
-use Rattle.py_flat.specs.Calls.{FileCall, FileReply, Done, Count, Cookie, Unwritten, Refused}
+use Rattle.py_flat.specs.Calls.{FileCall, FileReply, Text, Done, Count, Cookie, Unwritten, Refused}
 use Rattle.py_flat.specs.Calls as file
 use Rattle.py_flat.specs.FlatFile.{Buffered, FlatFile}
 use Rattle.py_flat.specs.Limits.{greatest_place}
@@ -14,11 +14,13 @@ use Rattle.py_plain_text.specs.Rest.{text_rest}
 use Rattle.py_plain_text.specs.declared.text_cookie.TextIOCookie.{TextIOCookie}
 use Rattle.py_plain_text.specs.Cookie.{cookie_bytes}
 use Rattle.py_plain_text.specs.CookieView.{cookie_shown}
+use Rattle.py_plain_text.specs.Telling as telling
 use Rattle.py_plain_text.specs.TextCalls as text
 use Rattle.py_plain_text.specs.TextCalls.{TextFileCall, tells_name}
 use Rattle.py_plain_text.specs.TextRefusals.{refusal}
 use Rattle.py_plain_text.specs.TextWriting.{written_bytes}
 use Rattle.py_plain_text.specs.TextExact.{carried_out, after_writing, exact, with_chunk_size}
+use Rattle.py_text_laws.specs.Written.{NeedsNoHandler, is_kept}
 use Rattle.py_raw.specs.RawStream.{Raw, WhereTold, WhereBytes, tells}
 use Rattle.py_text.specs.declared.reconfigure.Reconfigure.{Reconfigure}
 use Rattle.py_stream.specs.Stream.{Stream, file_of, nothing_owed}
@@ -175,6 +177,57 @@ pub record BringsBack (opened : SessionView) : Type 0 where
       → IsRun opened calls replies (TextSession now) → GoesBackFrom was now
       → Answers (TextSession now) (call.SeekText (cookie_bytes (cookie_shown cookie)) (pos 0)) says (TextSession after)
       → IsSmooth now.text.buffer.raw after.text.buffer.raw → said says ≢ Refused fault.NoMemory → IsBack was cookie says after
+
+-- Reading what was written.
+
+-- a text session may write a text so that it can be read back
+pub record MayWrite (now : TextState) (written : List ℕ) : Type 0 where
+  -- it is live
+  pub live : now.text.life ≡ life.Live
+  -- it can be moved, so that it tells where it stands
+  pub moves : now.text.buffer.can.seekable ≡ true
+  -- it can be written
+  pub writes : now.text.buffer.can.writable ≡ true
+  -- it is clean: nothing was read from where it stands
+  pub clean : now.text.place.dirty ≡ false
+  -- its encoding has each of the characters, so that no handler replaces one
+  pub had : NeedsNoHandler now.text.settings.encoding written
+  -- its newline argument writes the text as it is, and reads that as it is: "\n" and "" do so with each text
+  pub kept : is_kept now.text.settings.newline written ≡ true
+  -- its bytes are no more than a stream can have
+  pub reach : length (state.file_of now).bytes ≤ greatest_place
+  -- and what is written ends where a stream can stand
+  pub near : now.text.place.at + length (written_bytes now.text.settings written) ≤ greatest_place
+
+-- a text session may read what another wrote, whatever its handler is, its chunks and its ways of writing
+pub record MayReadFrom (was now : TextState) (written : List ℕ) : Type 0 where
+  -- it can be moved, so that it can be put where the other stood
+  pub moves : now.text.buffer.can.seekable ≡ true
+  -- it can be read
+  pub reads : now.text.buffer.can.readable ≡ true
+  -- it doesn't append, so that it can be put before its end
+  pub forward : now.text.buffer.can.appending ≡ false
+  -- it has the other's encoding
+  pub encoding : now.text.settings.encoding ≡ was.text.settings.encoding
+  -- its newline argument reads the text as it is, as the other's wrote it
+  pub kept : is_kept now.text.settings.newline written ≡ true
+
+-- the cookie that a text session tells, by where it stands
+abbrev pub cookie_told : TextState → List ℕ
+cookie_told now = cookie_bytes (telling.told (state.file_of now))
+
+-- whether a call passes on all that is owed, and leaves the bytes as they are: a `flush` and a `close` do
+abbrev pub passes_on : Call → Bool
+passes_on call.Flush = true
+passes_on call.Close = true
+passes_on call = false
+
+-- what one session wrote was read by another
+pub record IsReadBack (was : TextState) (written : List ℕ) (replies others : List Reply) : Type 0 where
+  -- the one told its cookie, took all the characters, and was flushed or closed
+  pub writes : all_said replies ≡ Cookie (cookie_told was) ∷ Count (length written) ∷ Done ∷ []
+  -- the other went there, and read the text that was written
+  pub reads : all_said others ≡ Cookie (cookie_told was) ∷ Text written ∷ []
 
 -- Histories, and runs in parts.
 

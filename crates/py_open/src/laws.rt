@@ -1,9 +1,10 @@
 //! Laws of the definitions that the contracts cite: what any run of a session has to be.
 //!
 //! No function here does anything; what each ensures is a law.
-ghost use Rattle.std.specs.Prelude.{◌≡◌, ◌≢◌, ◌≤◌, ℕ, pos, true, IsTrue, List, [], ◌∷◌, ◌++◌, length};
+ghost use Rattle.std.specs.Prelude.{◌≡◌, ◌≢◌, ◌≤◌, ℕ, pos, true, false, IsTrue, List, [], ◌∷◌, ◌++◌, length, Some};
 ghost use Rattle.py_flat.specs.declared.life.Life.TheVariants as life;
 ghost use Rattle.py_flat.specs.Calls.{FileReply, Refused};
+ghost use Rattle.py_flat.specs.Calls as file;
 ghost use Rattle.py_flat.specs.declared.fault.IoFault.TheVariants as fault;
 ghost use Rattle.py_plain_text.specs.TextFile.{TextFile};
 ghost use Rattle.py_plain_text.specs.declared.text_cookie.TextIOCookie.{TextIOCookie};
@@ -15,7 +16,7 @@ ghost use Rattle.py_read_text.specs.TextState.{TextState, file_of};
 ghost use Rattle.py_raw.specs.RawStream.{Raw, Keeps, AnswersFor, tells};
 ghost use Rattle.py_stream.specs.Answers.{ClosedWith};
 ghost use Rattle.py_calls.specs.declared.call.Call.{Call};
-ghost use Rattle.py_calls.specs.declared.call.Call.TheVariants.{Close, SeekText, Tell};
+ghost use Rattle.py_calls.specs.declared.call.Call.TheVariants.{Close, Read, SeekText, Tell, WriteText};
 ghost use Rattle.py_calls.specs.declared.reply.Reply.{Reply};
 ghost use Rattle.py_calls.specs.declared.reply.Reply.TheVariants.{Cookie, Done};
 ghost use Rattle.py_calls.specs.Calls.{said};
@@ -28,7 +29,7 @@ ghost use Rattle.py_open.specs.Opening.{OpensSession, RefusesSession};
 ghost use Rattle.py_open.specs.OpenedFile.{opened_file};
 ghost use Rattle.py_open.specs.Paths.{raw_mode, RefusesOrLacks};
 ghost use Rattle.py_open.specs.Run.{Entry, IsRun, IsHistory, IsCalm, IsSmooth, NoneLacksMemory, AllSettle, all_said, calls_of, replies_of};
-ghost use Rattle.py_open.specs.Laws.{AlikeButSizes, NoneTellsSize, is_text, IsSmoothRun, IsExact, KnowsAnswers, HasHistory, RunsInTwo, RunsComplete, IsReached, GoesBackFrom, IsBack, BringsBack, KeepsSettings, OnlyReads, PassesAll, HoldsFlat, StaysClosed, StaysDetached, FileStaysDetached};
+ghost use Rattle.py_open.specs.Laws.{AlikeButSizes, NoneTellsSize, is_text, IsSmoothRun, IsExact, KnowsAnswers, HasHistory, RunsInTwo, RunsComplete, IsReached, GoesBackFrom, IsBack, BringsBack, MayWrite, MayReadFrom, IsReadBack, cookie_told, passes_on, KeepsSettings, OnlyReads, PassesAll, HoldsFlat, StaysClosed, StaysDetached, FileStaysDetached};
 
 /// A run over a raw that tells, in which no count of the raw rose and no call ran out of memory, is the model's: there is a flat
 /// file between any two calls, and each reply is what the file there answers, exactly, but that a single transfer gives some front
@@ -111,6 +112,27 @@ pub fn a_text_goes_back_to_where_it_told()
 /// Cookies bring back what was left: `a_text_goes_back_to_where_it_told`, of every session that a plan opens over a raw that tells.
 pub fn cookies_bring_back()
     ensures { (raw : Raw) (plan : OpenPlan) (opened : SessionView) → IsTrue (tells raw) → IsPlanned plan → OpensSession raw plan opened → BringsBack opened }
+{}
+
+/// A session reads back what it wrote. A session that a plan opened over a raw that tells, or to which calls led from there, has a live, clean
+/// text that can be moved, read and written, and doesn't append. It tells its place, writes a text, seeks back to what it told, and reads as
+/// many characters: in a run of these calls in which no count of the raw rose and memory never ran out the replies are the cookie, the count
+/// of characters, the cookie again, and the text that was written.
+///
+/// So it is in each of the encodings, of each text of whose characters a handler need replace none, whatever stood there and stands behind: by
+/// the newline arguments "\n" and "" of every such text, by the others of one that they write and read as it is (`MayWrite`).
+pub fn a_session_reads_back_what_it_wrote()
+    ensures { (now : TextState) (written : List ℕ) (replies : List Reply) (after : SessionView) → IsReached (TextSession now) → MayWrite now written → now.text.buffer.can.readable ≡ true → now.text.buffer.can.appending ≡ false → IsSmoothRun (TextSession now) (Tell ∷ WriteText written ∷ SeekText (cookie_told now) (pos 0) ∷ Read (Some (length written)) ∷ []) replies after → all_said replies ≡ file.Cookie (cookie_told now) ∷ file.Count (length written) ∷ file.Cookie (cookie_told now) ∷ file.Text written ∷ [] }
+{}
+
+/// Another session reads what one wrote. The first is as above, but that it need not be read, and may append; it tells its place, writes a
+/// text, and is flushed or closed. The second is opened over a raw that tells, with the bytes that the first left in its own (`opened`), or was
+/// reached, is live and stands for these bytes (`reached`); it can be moved and read, doesn't append, has the first's encoding and a newline
+/// argument that reads the text as it is. It seeks to the cookie that the first told, and reads as many characters: where in neither run a count
+/// of the raw rose or memory ran out, this is the text that was written.
+pub fn another_session_reads_what_one_wrote()
+    ensures opened { (was now : TextState) (written : List ℕ) (last : Call) (replies others : List Reply) (left after : SessionView) (raw : Raw) (plan : OpenPlan) → IsReached (TextSession was) → MayWrite was written → passes_on last ≡ true → IsSmoothRun (TextSession was) (Tell ∷ WriteText written ∷ last ∷ []) replies left → IsTrue (tells raw) → raw.bytes ≡ (raw_of left).bytes → IsPlanned plan → OpensSession raw plan (TextSession now) → MayReadFrom was now written → IsSmoothRun (TextSession now) (SeekText (cookie_told was) (pos 0) ∷ Read (Some (length written)) ∷ []) others after → IsReadBack was written replies others }
+    ensures reached { (was now : TextState) (written : List ℕ) (last : Call) (replies others : List Reply) (left after : SessionView) → IsReached (TextSession was) → MayWrite was written → passes_on last ≡ true → IsSmoothRun (TextSession was) (Tell ∷ WriteText written ∷ last ∷ []) replies left → IsReached (TextSession now) → now.text.life ≡ life.Live → MayReadFrom was now written → (file_of now).bytes ≡ (raw_of left).bytes → IsSmoothRun (TextSession now) (SeekText (cookie_told was) (pos 0) ∷ Read (Some (length written)) ∷ []) others after → IsReadBack was written replies others }
 {}
 
 /// A run has one reply for each call.

@@ -24,11 +24,13 @@ pub use laws::{
     a_done_close_closes_its_raw, a_history_gains_an_entry, a_raw_is_closed_with_its_session,
     a_reached_text_stands_where_it_tells, a_run_answers_each_call, a_run_is_a_history,
     a_run_keeps_the_settings, a_run_reaches_its_sessions, a_run_splits_anywhere,
-    a_session_that_reads_spares_the_bytes, a_settled_text_is_exact, a_smooth_run_is_complete,
-    a_smooth_run_settles, a_smooth_run_that_closes_leaves_its_file_in_the_raw,
-    a_text_goes_back_to_where_it_told, an_ended_session_calls_no_raw, an_opened_raw_suits_its_plan,
-    an_opened_session_is_the_file_of_its_path, cookies_bring_back, counts_never_fall,
-    no_reply_hangs_on_the_sizes, two_runs_are_a_run, what_is_passed_on_is_in_the_raw,
+    a_session_reads_back_what_it_wrote, a_session_that_reads_spares_the_bytes,
+    a_settled_text_is_exact, a_smooth_run_is_complete, a_smooth_run_settles,
+    a_smooth_run_that_closes_leaves_its_file_in_the_raw, a_text_goes_back_to_where_it_told,
+    an_ended_session_calls_no_raw, an_opened_raw_suits_its_plan,
+    an_opened_session_is_the_file_of_its_path, another_session_reads_what_one_wrote,
+    cookies_bring_back, counts_never_fall, no_reply_hangs_on_the_sizes, two_runs_are_a_run,
+    what_is_passed_on_is_in_the_raw,
 };
 pub use open_failed::OpenFailed;
 pub use open_refused::OpenRefused;

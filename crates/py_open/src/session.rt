@@ -128,7 +128,8 @@ impl<R: RawStream> Session<R> {
     /// - `RawFault` where the raw failed: the session is failed from then on; after `Close` it is closed.
     /// - `NoMemory`: place and life stay, but for a `SeekText` as above, and the call may be made again; but a `Read`, `ReadInto`, `ReadLine`
     ///   or `ReadLines` of bytes fails the session once bytes left the raw, a write of bytes once the raw took some of its bytes, a call of
-    ///   a text once the raw had some of the text's own bytes, and a `WriteText` with line buffering also once the buffer took all of them.
+    ///   a text where its buffer failed once the raw had some of the bytes that the text had kept or was given, and a `WriteText` with line
+    ///   buffering also once the raw had some of its bytes.
     ///
     /// A `Close` of a live session that is `Done` has closed the raw, of every kind of session, and leaves nothing owed. Over a raw
     /// that tells, a `SeekText` by a cookie that a text of this session, or of another over the same bytes, told brings back what was left there

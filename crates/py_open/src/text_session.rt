@@ -44,7 +44,8 @@ use std::mem;
 /// `detach`), `Closed` after a `close` (which may be called again), `Detached` after a `detach`; then it is `Unsupported` where the text isn't
 /// opened for it. Else, where the raw failed in the call, it is `RawFault`: the text is failed from then on; after `close` it is closed.
 /// `NoMemory` means out of memory: place and life stay, but for a `seek` (there), and the call may be made again; but a text that is written
-/// is failed by it once the raw had some of its own bytes, by a `write` with line buffering also once its buffer took all of them.
+/// is failed by it where its buffer failed once the raw had some of the bytes that the text had kept, or, by a `write` with line buffering,
+/// once the raw had some of that write's.
 ///
 /// The rules are those of Python's `io.TextIOWrapper`; what waits, faults and refused ranges leave is this project's choice
 /// (docs/DECISIONS.md). A session that is dropped drops its raw, and what it owes; `into_parts` hands both back. After a `detach` nothing
@@ -175,8 +176,9 @@ impl<R: RawStream> TextSession<R> {
     /// argument, where the handler refuses a run of characters; `TooFar` where the bytes would end past 9223372036854775807: with all as it
     /// was, and no memory taken. `WouldBlock` says how many bytes the text is written as: all are taken, and later calls pass them on.
     /// `RawFault`: the text is failed; all of the argument is taken, and what the raw isn't known to have is in `into_parts`, or none,
-    /// where the raw failed as a buffer that was read ahead went back. `NoMemory` leaves all as it was, but once the raw had some of the
-    /// text's own bytes, or, with line buffering, the buffer took all of them: then the text is failed, too.
+    /// where the raw failed as a buffer that was read ahead went back. `NoMemory`: nothing of the argument is
+    /// written; but where the buffer failed once the raw had some of the bytes that the text had kept or was given, or, with line buffering,
+    /// once the raw had some of those that it was given, the text is failed, too, with all of the argument taken.
     pub fn write(&mut self, alloc: Global, text: &str) -> Result<usize, IoFault>
         ensures { Answers self.old (WriteText (chars text.now)) (count_reply result) self.new }
     {
@@ -202,8 +204,8 @@ impl<R: RawStream> TextSession<R> {
     /// `Unsupported` where its raw can't be moved, where it appends, or by another cookie for whence 1 or 2; `BadWhence`; `InvalidCookie` for
     /// more than 25 bytes, a negative field or an order: with all as it was. `CannotRestore` where a cookie that skips doesn't fit the bytes at
     /// its start: the text stands there, clean. `WouldBlock`: the text stands where it stood, or, where the bytes fed were being read, clean at
-    /// the cookie's start; so too after `NoMemory`, there only over a raw that takes memory; once the raw had some of the text's own bytes
-    /// that fails the text.
+    /// the cookie's start; so too after `NoMemory`, there only over a raw that takes memory; where the buffer failed
+    /// once the raw had some of the text's own bytes, the text is failed.
     pub fn seek(
         &mut self,
         alloc: Global,
@@ -243,7 +245,7 @@ impl<R: RawStream> TextSession<R> {
     /// Passes on all that was written: the raw has it then.
     ///
     /// `WouldBlock`: the raw would have blocked before all was passed on; what is left is owed still. `NoMemory` comes only of a raw that
-    /// takes memory; the text stays live, or is failed once the raw had some of its own bytes.
+    /// takes memory; the text stays live, or fails with its buffer, once the raw had some of its own bytes.
     pub fn flush(&mut self) -> Result<(), IoFault>
         ensures { Answers self.old Flush (done_reply result) self.new }
     {
@@ -254,7 +256,7 @@ impl<R: RawStream> TextSession<R> {
     /// which calls no raw.
     ///
     /// `WouldBlock`: the raw would have blocked before all was passed on, and the text stays live. `NoMemory` comes only of a raw that
-    /// takes memory; the text stays live, or is failed once the raw had some of its own bytes.
+    /// takes memory; the text stays live, or fails with its buffer, once the raw had some of its own bytes.
     pub fn close(&mut self) -> Result<(), IoFault>
         ensures { Answers self.old Close (done_reply result) self.new }
     {
@@ -356,8 +358,8 @@ impl<R: RawStream> TextSession<R> {
     /// is `Detached`. It takes no memory but its raw's.
     ///
     /// `WouldBlock`: the raw would have blocked before all was passed on, and the text stays live. `RawFault`: the text is failed, and may be
-    /// detached as such. `NoMemory` comes only of a raw that takes memory; the text stays live, or is failed once the raw had some of its own
-    /// bytes. `Closed` of a closed text, `Detached` of a detached one: with all as it was.
+    /// detached as such. `NoMemory` comes only of a raw that takes memory; the text stays live, or fails with its buffer, once the raw had some of
+    /// its own bytes. `Closed` of a closed text, `Detached` of a detached one: with all as it was.
     pub fn detach(&mut self) -> Result<TextUnwritten, IoFault>
         ensures { AnswersCall self.old text_call.Detach (unwritten_reply result) self.new }
     {

@@ -17,6 +17,7 @@ mod Stopping
 mod Ranges
 mod Beginning
 pub mod Placing
+pub mod Preparing
 mod Changing
 pub mod Owing
 mod Laying

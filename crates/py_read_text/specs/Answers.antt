@@ -466,7 +466,7 @@ pub record Answers (before : TextState) (call : TextFileCall) (reply : FileReply
   -- told, the raw has a front then of what was owed and of what the call gave behind that, laid on where that begins, whatever it answers
   pub lays : LaysOwed before.text (all_owed before.text ++ given_by before.text.settings call) after.text
   -- running out of memory fails a text only over a raw that takes memory, in a call that has bytes of its own to hand on, once the raw took
-  -- some and the buffer failed, or where the buffer took all and was to be flushed behind them
+  -- some of them: of what the text had kept, whose buffer failed then; or of the bytes of the write that was to be flushed
   pub starves : Starves before.text call reply after.text
   -- which replies may come of a call that isn't refused
   pub answer : refused_here (file_of before) call ≡ None → IsReplyTo before.text.buffer.can.writable call reply

@@ -116,19 +116,18 @@ abbrev pub flushes_behind : TextSettings → TextFileCall → Bool
 flushes_behind settings (WriteText text) = settings.line_buffering && has_line_end text
 flushes_behind settings call = false
 
--- the buffer took some bytes of the text's own, and all of them: none is left with the text, and what would be begins further on
-pub record TookAllOwn (before after : TextOver Buffer) : Type 0 where
-  pub further : own_from before < own_from after
-  pub none : after.owed ≡ []
+-- the raw took some of the n bytes that a call gave: fewer are owed
+pub record TookGiven (given : ℕ) (after : TextOver Buffer) : Type 0 where
+  pub fewer : length (all_owed after) < given
 
 -- the buffer failed once the raw took some bytes of the text's own, which answered for more than the buffer owed
 abbrev pub FailedWithOwn : TextOver Buffer → TextOver Buffer → Type 0
 FailedWithOwn before after = (after.buffer.life ≡ life.Failed) × TookOwn (stream_from before) (stream_shown after.buffer)
 
--- bytes of the text's own went on: to a buffer that failed once the raw took some; or, in a call that flushes behind what it gives, the
--- buffer took all
-abbrev pub GaveOwn : (flushes : Bool) → TextOver Buffer → TextOver Buffer → Type 0
-GaveOwn flushes before after = FailedWithOwn before after ⊎ ((flushes ≡ true) × TookAllOwn before after)
+-- bytes of the text's own went on: to a buffer that failed once the raw took some; or, in a call that flushes behind the n bytes that it
+-- gives, the raw took some of these
+abbrev pub GaveOwn : (flushes : Bool) → (given : ℕ) → TextOver Buffer → TextOver Buffer → Type 0
+GaveOwn flushes given before after = FailedWithOwn before after ⊎ ((flushes ≡ true) × TookGiven given after)
 
 -- life, settings and place stay
 pub record StaysAsItWas (before after : TextOver Buffer) : Type 0 where
@@ -141,7 +140,7 @@ pub record FailsStarved (before : TextOver Buffer) (call : TextFileCall) (after 
   pub life_is : after.life ≡ life.Failed
   pub takes : IsTrue before.buffer.raw.takes_memory
   pub has : HasOwn before call
-  pub gave : GaveOwn (flushes_behind before.settings call) before after
+  pub gave : GaveOwn (flushes_behind before.settings call) (length (given_by before.settings call)) before after
 
 -- running out of memory left a live text at another place, over a raw that takes memory, in a seek (`TextSeeks` says where)
 pub record MovesStarved (before : TextOver Buffer) (call : TextFileCall) (after : TextOver Buffer) : Type 0 where
@@ -151,8 +150,8 @@ pub record MovesStarved (before : TextOver Buffer) (call : TextFileCall) (after 
   pub settings : after.settings ≡ before.settings
 
 -- running out of memory fails a text only over a raw that takes memory, in a call that has bytes of its own to hand on, and only once the
--- raw took some of them and the buffer failed, or where the buffer took all and was to be flushed behind them; else it leaves the text as it
--- was, but for where a seek by a cookie that skips may leave it
+-- raw took some of them: of what the text had kept, whose buffer failed then; or of the bytes of the write that was to be flushed. Else it
+-- leaves the text as it was, but for where a seek by a cookie that skips may leave it
 abbrev pub Starves : TextOver Buffer → TextFileCall → FileReply → TextOver Buffer → Type 0
 Starves before call (Refused fault.NoMemory) after = StaysAsItWas before after ⊎ (FailsStarved before call after ⊎ MovesStarved before call after)
 Starves before call reply after = Unit {0}

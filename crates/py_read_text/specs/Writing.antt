@@ -6,7 +6,8 @@ use Rattle.py_flat.specs.declared.life.Life.TheVariants as life
 use Rattle.py_flat.specs.Limits.{greatest_place}
 use Rattle.py_flat.specs.Causes.{Rose}
 use Rattle.py_raw.specs.RawStream.{StaysOpen, AnswersFor}
-use Rattle.py_stream.specs.Buffer.{Buffer, WhereShown, flat_of, KeepsBuffer, IsClosedWithRaw}
+use Rattle.py_stream.specs.Writing.{OwesBehind}
+use Rattle.py_stream.specs.Buffer.{Buffer, WhereShown, flat_of, stream_shown, KeepsBuffer, IsClosedWithRaw}
 use Rattle.py_read_text.specs.Answers.{StandsWhileLive}
 use Rattle.py_read_text.specs.Knowing.{TextView, IsClean}
 
@@ -44,3 +45,11 @@ ReturnOutcome old (Ok done) new = (new.at ≡ new.buffer.place) × LeavesFlat ol
 ReturnOutcome old (Err fault.RawFault) new = LeavesFlat old.buffer true new.buffer × (new.buffer.place ≡ old.buffer.place) × (old.at ≢ old.buffer.place)
 ReturnOutcome old (Err fault.NoMemory) new = LeavesFlat old.buffer false new.buffer × (new.buffer.place ≡ old.buffer.place)
 ReturnOutcome old (Err other) new = ⊥
+
+-- the raw of a buffer was moved, if at all, and the buffer stands where it stood: the raw of one that writes then stands where what it owes
+-- begins. Or moving it failed, which fails the buffer, or memory ran out
+abbrev pub PrepareOutcome : TextView → Result (Unit {0}) IoFault → TextView → Type 0
+PrepareOutcome old (Ok done) new = LeavesFlat old.buffer false new.buffer × (new.buffer.place ≡ old.buffer.place) × (old.buffer.can.writable ≡ true → OwesBehind (stream_shown new.buffer))
+PrepareOutcome old (Err fault.RawFault) new = LeavesFlat old.buffer true new.buffer × (new.buffer.place ≡ old.buffer.place)
+PrepareOutcome old (Err fault.NoMemory) new = LeavesFlat old.buffer false new.buffer × (new.buffer.place ≡ old.buffer.place)
+PrepareOutcome old (Err other) new = ⊥

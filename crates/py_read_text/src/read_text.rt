@@ -14,14 +14,14 @@ ghost use Rattle.py_read_text.specs.TextState.{settings_of};
 ghost use Rattle.py_codec.specs.Answers.{text_of};
 ghost use Rattle.py_plain_text.specs.TextStep.{asks_any};
 ghost use Rattle.py_stream.specs.Writing.{OwesUpTo, Takes};
-ghost use Rattle.py_stream.specs.Buffer.{WhereShown, flat_of, stream_shown, AnswersAsBuffer, EndsAt};
+ghost use Rattle.py_stream.specs.Buffer.{WhereShown, flat_of, stream_shown, AnswersAsBuffer, EndsAt, TakesBack};
 ghost use Rattle.py_held_text.specs.Finding.{IsFrontOf, answer_of};
 ghost use Rattle.py_read_text.specs.Ahead.{ReadsOn};
 ghost use Rattle.py_read_text.specs.Reading.{size_of, asks_all, KeepsPlace, FetchOutcome, GatherOutcome, GathersAsNeeded, asks_none, GiveOutcome, GiveAllOutcome, GatheredAt, Finishes, OnlyWhereWaits, WaitsOrLacks, reply_of, call_of, waited_in};
 ghost use Rattle.py_plain_text.specs.Telling.{told};
 ghost use Rattle.py_telling.specs.ToldView.{told_shown, IsTold};
 ghost use Rattle.py_read_text.specs.Knowing.{over_of, state_of, shown_file, IsClean, IsSetTo};
-ghost use Rattle.py_read_text.specs.Writing.{StandsBehind, ReturnOutcome};
+ghost use Rattle.py_read_text.specs.Writing.{StandsBehind, ReturnOutcome, PrepareOutcome};
 ghost use Rattle.py_plain_text.specs.CookieView.{cookie_shown};
 ghost use Rattle.py_plain_text.specs.Landing.{start_of, skips};
 ghost use Rattle.py_read_text.specs.Seeking.{Seeks, TextGoes, SeekOutcome, sought_reply};
@@ -523,6 +523,37 @@ impl<B: BufferedStream> ReadText<B> {
         // What holds of every text is known from here on.
         let _ = &self.held;
         self.buffer.flush()
+    }
+
+    /// Sees to it that the raw stands where what the buffer owes begins, so that a flush writes at once. The text stays as it is.
+    pub fn prepare_flush(&mut self) -> Result<(), IoFault>
+        requires live { self.old.buffer.life ≡ Life.Live }
+        ensures outcome { PrepareOutcome self.old result self.new }
+        ensures keeps { KeepsPlace self.old self.new }
+        ensures joined { IsJoined (over_of self.new) }
+    {
+        // What holds of every text is known from here on.
+        let _ = &self.held;
+        self.buffer.prepare_flush()
+    }
+
+    /// Takes back the last n bytes that the buffer owes, of a clean text that stands where its buffer stands, and answers whether it did: the
+    /// text then stands, clean, before them. Else all is as it was.
+    pub fn take_back(&mut self, count: usize) -> bool
+        requires clean { IsClean self.old }
+        requires stands { self.old.at ≡ self.old.buffer.place }
+        ensures takes { TakesBack self.old.buffer count result self.new.buffer }
+        ensures stands { StandsBehind self.old self.new }
+        ensures joined { IsJoined (over_of self.new) }
+    {
+        // What holds of every text is known from here on.
+        let _ = &self.held;
+        if !self.buffer.take_back(count) {
+            return false;
+        }
+        self.at -= count as u64;
+        self.held.clear(self.at);
+        true
     }
 
     /// The buffer, in every life, and the byte of the text place.

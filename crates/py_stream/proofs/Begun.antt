@@ -184,7 +184,7 @@ module _ (short : Bool) where
   owed_behind before behind = record { ends = behind.ends; stands = behind.stands }
 
   taken : (before after : Stream) (call : FileCall) → (IsTrue (is_writing call) → OwesUpTo before.owed before.place → Takes (seen short before) (payload call) after) → IsTrue (is_writing call) → OwesUpTo before.owed before.place → Takes before (payload call) after
-  taken before after call takes writing up_to = let is = takes writing up_to in record { taken = is.taken; within = is.within; place = is.place; passed = is.passed; most = is.most; answered = is.answered; forth = λ behind. is.forth (owed_behind before behind); owed = is.owed; up_to = is.up_to; told = is.told }
+  taken before after call takes writing up_to = let is = takes writing up_to in record { taken = is.taken; within = is.within; place = is.place; passed = is.passed; most = is.most; answered = is.answered; forth = λ behind. is.forth (owed_behind before behind); owed = is.owed; up_to = is.up_to; told = is.told; just = λ lives behind. is.just lives (owed_behind before behind) }
 
   owed_so : (before after : Stream) (new : List ℕ) → OwesSome (seen short before) new after → OwesSome before new after
   owed_so before after new (inl rest) = inl (record { passed = rest.passed; answered = rest.answered; leaves = rest.leaves })

@@ -1,20 +1,21 @@
 -- A stream over a raw one is a buffered stream for the layer above it.
-use Rattle.std.proofs.Common.{◌≡◌, ◌≢◌, ⊎_elim, ℕ, ℤ, pos, suc, zero, inl, Bool, true, false, IsTrue, List, [], inr, length, subst, Option, Some, None, IsSome, unwrap_or, refl, sym, ap, ◌∙◌, arith, rules}
+use Rattle.std.proofs.Common.{◌≡◌, ◌≢◌, ⊎_elim, ℕ, ℤ, pos, suc, zero, inl, Bool, true, false, IsTrue, List, [], inr, length, take, ◌-◌, subst, Option, Some, None, IsSome, unwrap_or, refl, sym, ap, ◌∙◌, arith, rules}
 use Rattle.std.proofs.lemmas.List.{append-nil}
 use Rattle.py_flat.specs.declared.fault.IoFault.{IoFault}
+use Rattle.py_flat.specs.declared.fault.IoFault.TheVariants as fault
 use Rattle.py_flat.specs.declared.life.Life.{Life}
 use Rattle.py_flat.specs.declared.life.Life.TheVariants as life
 use Rattle.py_flat.specs.Bytes.{lay}
 use Rattle.py_flat.specs.Owed.{Owed}
-use Rattle.py_flat.specs.Calls.{FileCall, Write, Seek, Close, FileReply, Done}
+use Rattle.py_flat.specs.Calls.{FileCall, Write, Seek, Flush, Close, FileReply, Done, Refused}
 use Rattle.py_flat.specs.Refusals.{is_close}
 use Rattle.py_flat.specs.ExactStep.{is_closed}
 use Rattle.py_flat.specs.BinaryStep.{payload}
 use Rattle.py_raw.specs.RawStream.{tells, WhereTold, AnswersFor, StaysOpen}
 use Rattle.py_raw.proofs.Telling.{tells_still, tells_its_bytes}
-use Rattle.py_stream.specs.Stream.{Stream, buffering_of, nothing_owed}
+use Rattle.py_stream.specs.Stream.{Span, Stream, buffering_of, nothing_owed}
 use Rattle.py_stream.specs.Kinds.{is_reading, is_writing, is_single, makes_one, moves_raw, says_no_memory}
-use Rattle.py_stream.specs.Writing.{OwesBehind, LaysTaken, OwesSome, PassesFront, PassedOn, OwesBoth, PassesOn, LaysInOrder, BlocksFull, TookOwn, Writes}
+use Rattle.py_stream.specs.Writing.{OwesBehind, LaysTaken, Takes, OwesSome, PassesFront, PassedOn, HasJust, OwesBoth, PassesOn, LaysInOrder, BlocksFull, TookOwn, Writes}
 use Rattle.py_stream.specs.Answers.{Answers, Leaves, ClosedWith, parts_at_close, LifeMoves, GivesWithin, AtMostOne, ReadsOnce, FlushesFirst, PassesFirst, CameByReads, SparesBytes, SeeksTo, SeeksFromEnd, UnlessStopped, EndMoves, SeeksByEnd, closes_again, refused_by}
 use Rattle.py_stream.specs.Buffer.{Buffer, buffer_of, taken_by, size_shown, LeavesBuffer, closes_twice, stream_shown, GivesAsked, GoesFromEnd, BufferSeeksFromEnd, BufferSeeksByEnd, BufferOwes, BufferPasses, BufferLays, BufferTakes, OwesAsItCan, is_made, AnswersAsBuffer}
 use Rattle.py_stream.proofs.Begun.{came_seen}
@@ -79,8 +80,23 @@ both_so was taken before after bytes both = search (rules, some_so, both.owes)
 behind_so : (was : ℕ) (before : Stream) → OwesBehind (shown before was) → OwesBehind before
 behind_so was before behind = record { ends = behind.ends; stands = behind.stands }
 
+takes_shown : (was taken : ℕ) (before after : Stream) (bytes : List ℕ) → Takes before bytes after → Takes (shown before was) bytes (shown after taken)
+takes_shown was taken before after bytes takes = record {
+  taken = takes.taken;
+  within = takes.within;
+  place = takes.place;
+  passed = takes.passed;
+  most = takes.most;
+  answered = takes.answered;
+  forth = λ behind. takes.forth (behind_so was before behind);
+  owed = takes.owed;
+  up_to = takes.up_to;
+  told = takes.told;
+  just = λ lives behind. takes.just lives (behind_so was before behind);
+}
+
 owes_so : (was taken : ℕ) (before after : Stream) (call : FileCall) (reply : FileReply) → IsTrue (is_made call) → Writes before call reply after → BufferOwes (buffer_of before was) call (buffer_of after taken)
-owes_so was taken before after (Write bytes) reply made writes = record { both = both_so was taken before after bytes (writes.owes refl); takes = λ up_to. grind (arith, behind_so, writes.takes refl up_to) }
+owes_so was taken before after (Write bytes) reply made writes = record { both = both_so was taken before after bytes (writes.owes refl); takes = λ up_to. takes_shown was taken before after bytes (writes.takes refl up_to) }
 owes_so was taken before after call reply made writes = grind (arith, front_so)
 
 -- a call that gives bytes to a stream, and leaves its places and, told, its raw's bytes
@@ -114,6 +130,7 @@ owes_none_so before after (Write bytes) was none answered stands =
         owed = none ∙ sym (append-nil before.owed.bytes ∙ was);
         up_to = inl none;
         told = told;
+        just = λ lives behind. still.bytes;
       };
     }
 owes_none_so before after call was none answered stands = record { passed = 0; most = omega arith; answered = answered; bytes = none ∙ sym was; place = λ some. absurd (some none) }
@@ -121,11 +138,42 @@ owes_none_so before after call was none answered stands = record { passed = 0; m
 passed_so : (was taken : ℕ) (before after : Stream) → PassedOn before after → PassedOn (shown before was) (shown after taken)
 passed_so was taken before after passes = record { none = passes.none; holds = passes.holds }
 
-passes_so : (was taken : ℕ) (before after : Stream) (call : FileCall) (reply : FileReply) → PassesOn before call reply after → BufferPasses (buffer_of before was) call reply (buffer_of after taken)
-passes_so was taken before after call reply passes = grind (arith, passed_so)
+-- a flush is done of a live stream alone
+flushes_live : (before after : Stream) → Answers before Flush Done after → before.life ≡ life.Live
+flushes_live before after answers = by_life before.life refl
+  where
+    by_life : (current : Life) → before.life ≡ current → before.life ≡ life.Live
+    by_life life.Live is = is
+    by_life life.Failed is = let never : Done ≡ Refused fault.Failed = (answers.refused fault.Failed (rw is refl)).says in absurd (cc)
+    by_life life.Closed is = let never : Done ≡ Refused fault.Closed = (answers.refused fault.Closed (rw is refl)).says in absurd (cc)
+    by_life life.Detached is = let never : Done ≡ Refused fault.Detached = (answers.refused fault.Detached (rw is refl)).says in absurd (cc)
 
-passes_none_so : (before after : Buffer) (call : FileCall) (reply : FileReply) → before.can.writable ≡ false → PassedOn (stream_shown before) (stream_shown after) → BufferPasses before call reply after
-passes_none_so before after call reply can passed = grind arith
+-- after a flush that was done of a stream that writes the raw stands where what is owed next begins
+flushed_behind : (before after : Stream) → before.can.writable ≡ true → Answers before Flush Done after → OwesBehind after
+flushed_behind before after can answers =
+    let near = answers.near (answers.moves.life_is ∙ flushes_live before after answers) in
+    let passes = (answers.writes can).passes in
+    let none : length after.owed.bytes ≡ 0 = ap length passes.0.none in
+    let at : after.owed.place ≡ after.place = omega (arith, near.owed_after_first, near.owed_before_end, ap (λ (held : Span). held.from) passes.2, ap (λ (held : Span). held.to) passes.2) in
+    record { ends = omega (arith, none, at); stands = omega (arith, passes.1, at) }
+
+-- a stream as it is shown owes right before its place where the stream does
+behind_shown : (taken : ℕ) (after : Stream) → OwesBehind after → OwesBehind (shown after taken)
+behind_shown taken after behind = record { ends = behind.ends; stands = behind.stands }
+
+passes_so : (was taken : ℕ) (before after : Stream) (call : FileCall) (reply : FileReply) → before.can.writable ≡ true → Answers before call reply after → PassesOn before call reply after → BufferPasses (buffer_of before was) call reply (buffer_of after taken)
+passes_so was taken before after Flush Done can answers passes = (passed_so was taken before after passes.0, λ writes. behind_shown taken after (flushed_behind before after can answers))
+passes_so was taken before after Flush (Refused fault.NoMemory) can answers passes = passes
+passes_so was taken before after Close Done can answers passes = λ lives. passed_so was taken before after (passes lives)
+passes_so was taken before after call reply can answers passes = grind arith
+
+passes_none_so : (before after : Buffer) (call : FileCall) (reply : FileReply) → before.can.writable ≡ false → PassedOn (stream_shown before) (stream_shown after) → HasJust (stream_shown before) (stream_shown after) → BufferPasses before call reply after
+passes_none_so before after Flush (Refused fault.NoMemory) can passed just = just
+passes_none_so before after call reply can passed just = grind arith
+
+-- told, a raw that keeps its bytes has just those of none that were owed
+just_none_so : (before after : Buffer) → before.owed.bytes ≡ [] → after.owed.bytes ≡ [] → WhereTold before.raw (after.raw.bytes ≡ before.raw.bytes) → HasJust (stream_shown before) (stream_shown after)
+just_none_so before after was none same told = same told ∙ sym (ap (λ (owed : List ℕ). lay before.raw.bytes before.owed.place (take (length owed - length after.owed.bytes) owed)) was ∙ ap (λ (left : List ℕ). lay before.raw.bytes before.owed.place (take (0 - length left) [])) none)
 
 lays_so : (was taken : ℕ) (before : Stream) (call : FileCall) (bytes : List ℕ) → IsTrue (is_made call) → LaysInOrder before call bytes → BufferLays (buffer_of before was) (payload call) bytes
 lays_so was taken before call bytes made lays = grind arith
@@ -160,11 +208,14 @@ record Passing (before : Buffer) (call : FileCall) (reply : FileReply) (after : 
   full : BlocksFull call reply (stream_shown after)
   takes : BufferTakes call before.place after.place
   starves : IsTrue (says_no_memory reply) → IsTrue (is_writing call) → after.life ≡ life.Failed → TookOwn (stream_shown before) (stream_shown after)
+  behind : OwesBehind (stream_shown before) → is_reading call ≡ false → after.owed.bytes ≢ [] → after.raw_place ≡ after.owed.place
 
 passing_of : (was taken : ℕ) (writes : Bool) (before after : Stream) (call : FileCall) (reply : FileReply) → before.can.writable ≡ writes → IsTrue (is_made call) → OwesAsItCan (buffer_of before was) → Answers before call reply after → Passing (buffer_of before was) call reply (buffer_of after taken)
 passing_of was taken true before after call reply can made owes answers =
     let writes = answers.writes can in
-    search (rules, owes_so, lays_so, passes_so, full_so, takes_so, own_so)
+    let passes : BufferPasses (buffer_of before was) call reply (buffer_of after taken) = passes_so was taken before after call reply can answers writes.passes in
+    let behind : OwesBehind (shown before was) → is_reading call ≡ false → after.owed.bytes ≢ [] → after.raw_place ≡ after.owed.place = λ stood. writes.stands (behind_so was before stood) in
+    search (rules, owes_so, lays_so, full_so, takes_so, own_so)
 passing_of was taken false before after call reply can made owes answers =
     let none : before.owed ≡ nothing_owed before.place = owes can in
     let spares = answers.spares can none in
@@ -177,9 +228,10 @@ passing_of was taken false before after call reply can made owes answers =
       passes = passes_none_so (buffer_of before was) (buffer_of after taken) call reply can (record {
         none = left;
         holds = λ told. same told ∙ sym (ap (λ (owed : Owed). lay before.raw.bytes owed.place owed.bytes) none);
-      });
+      }) (just_none_so (buffer_of before was) (buffer_of after taken) nothing left same);
       full = grind arith;
       takes = grind arith;
+      behind = λ stood reads some. absurd (some left);
       starves = λ wanting writing. absurd (let fed = unwritten_feeds before call reply after can made writing answers in cc);
     }
 

@@ -48,6 +48,7 @@ takes_front old new own taken current short fits took = record {
   owed = took.owed;
   up_to = inr took.behind.ends;
   told = λ tells. (taken, omega arith, fits, took_bytes old new (take taken own) took tells);
+  just = λ lives behind. took.told;
 }
 
 -- a step of the flat file that carried the call out, or that a wait cut short
@@ -87,7 +88,7 @@ faults_answers old new call may fails counts one straight roomless =
     let life_is : LifeMoves old.buffer call (Refused fault.RawFault) old.life new.life = subst (LifeMoves old.buffer call (Refused fault.RawFault) old.life) (sym fails.failed) (is.life_is old.life) in
     let place : PlaceMoves old.buffer call (Refused fault.RawFault) new.life old.place new.place = is.place new.life old.place new.place counts ends in
     let counted : IsTrue old.raw.counts_exactly → IsCounted old.buffer old.raw call (Refused fault.RawFault) new.raw false = λ exact. record { faults = λ sound. absurd (cc); waits = λ _ ends. calm_counts old.buffer call old.raw new.raw may.gives.writing fails.calm ends exact; once = λ short. absurd (cc) } in
-    let takes : Takes old own (record new { short = false }) = record { taken = fails.taken; within = fails.fits; place = ends; passed = fails.passed; most = fails.within; answered = fails.answered; forth = λ _. omega (arith, fails.behind.stands, fails.place, fails.was.stands); owed = fails.owed; up_to = inr fails.behind.ends; told = λ tells. let laid = fails_bytes old new own fails tells in (laid.count, laid.least_is, laid.fits, laid.bytes) } in
+    let takes : Takes old own (record new { short = false }) = record { taken = fails.taken; within = fails.fits; place = ends; passed = fails.passed; most = fails.within; answered = fails.answered; forth = λ _. omega (arith, fails.behind.stands, fails.place, fails.was.stands); owed = fails.owed; up_to = inr fails.behind.ends; told = λ tells. let laid = fails_bytes old new own fails tells in (laid.count, laid.least_is, laid.fits, laid.bytes); just = λ lives behind. absurd (let never : life.Live ≡ life.Failed = sym lives ∙ fails.failed in cc) } in
     let lays = fails_lays old new own fails in
     let answers = fault_answers old.buffer true call (no_tell call may.gives.writing) in
     let told : WhereTold old.raw (BinaryStep (file_of old) call (Refused fault.RawFault) false true (file_of new)) = λ tells.

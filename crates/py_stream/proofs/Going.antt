@@ -29,7 +29,7 @@ use Rattle.py_stream.proofs.Begun.{answers_whole}
 use Rattle.py_stream.proofs.Taking.{keeps_then, faulted_then, answers_still}
 use Rattle.py_stream.proofs.Flat.{flat_of, file_now}
 use Rattle.py_stream.proofs.Showing.{PassesBytes, Asked, Accepts, Beside, beside_writing, shows_answers, passing_writes, seek_moves_none}
-use Rattle.py_stream.proofs.PassingOn.{begun, laid_there, passes_nothing, FaultLeaves, passed_all, passing_front, passing_keeps, passing_file, stays_open, lacking_answers, lacks_refuse, fault_fails, settling_refuses, settles_then}
+use Rattle.py_stream.proofs.PassingOn.{begun, laid_there, passes_nothing, just_nothing, FaultLeaves, passed_all, passing_front, passing_keeps, passing_file, stays_open, lacking_answers, lacks_refuse, fault_fails, settling_refuses, settles_then}
 use Rattle.py_stream.proofs.Sizing.{MaySeek, seek_refusal_is, target_why, bad_place_is_own, RefusesPlace, refuses_place, ReachesRaw, end_reaches, TargetOf, Goes, goes, seeks_nowhere, argument_refuses}
 
 -- Where the stream ends.
@@ -56,7 +56,7 @@ found_end old found end asks = record { stands = asks.stands; counts = asks.coun
 
 -- nothing was passed on by then, and the stream lives on
 found_on : (old found : Stream) → MaySeek old → FoundOut old found → LivesOn old found
-found_on old found may out = record { passes = passes_nothing old found out.stands; live = out.life_is ∙ may.live; no_fault = out.counts.no_fault }
+found_on old found may out = record { passes = passes_nothing old found out.stands; live = out.life_is ∙ may.live; no_fault = out.counts.no_fault; just = just_nothing old found out.stands }
 
 -- a stream that stands as before, and owed nothing, spares the bytes
 spared : (old new : Stream) (call : FileCall) (left : Life) → StandsAsBefore old new → old.owed ≡ nothing_owed old.place → SparesBytes old call (record new { life = left })

@@ -1,6 +1,6 @@
 -- A call that gives bytes to a stream that may owe bytes anywhere among those that its buffer holds: the buffer takes them.
 use Rattle.std.proofs.Common.{◌≡◌, ◌≢◌, ℕ, ◌+◌, ◌-◌, ◌<◌, ◌≤◌, ◌⊎◌, inl, inr, ⊎_elim, Bool, true, false, IsTrue, List, [], ◌++◌, length, take, drop, Some, None, Err, refl, sym, ap, ◌∙◌, subst, arith, rules}
-use Rattle.std.proofs.lemmas.List.{take_all, drop-append-le, length-drop, length-take-le}
+use Rattle.std.proofs.lemmas.List.{take_all, drop-append-le, take-append-le, length-drop, length-take-le}
 use Rattle.py_flat.specs.declared.fault.IoFault.{IoFault}
 use Rattle.py_flat.specs.declared.fault.IoFault.TheVariants as fault
 use Rattle.py_flat.specs.declared.life.Life.TheVariants as life
@@ -15,16 +15,17 @@ use Rattle.py_raw.specs.RawStream.{Raw, WhereTold, AnswersFor}
 use Rattle.py_raw.proofs.Telling.{tells_still}
 use Rattle.py_stream.specs.Stream.{Stream, size_of, file_of}
 use Rattle.py_stream.specs.Kinds.{outlasts, makes_one, says_fault, says_no_memory, is_writing}
-use Rattle.py_stream.specs.Writing.{OwesUpTo, first_place, CoversBoth, OwesAll, OwesTheRest, LeavesUpTo, OwesBoth, Takes, OwesNoneOfIts, LaysFront, IsFull, BlocksFull, HasRoom, TakesAlone, Writes, LaysInOrder, TookOwn}
+use Rattle.py_stream.specs.Writing.{HasJust, OwesUpTo, first_place, CoversBoth, OwesAll, OwesTheRest, LeavesUpTo, OwesBoth, Takes, OwesNoneOfIts, LaysFront, IsFull, BlocksFull, HasRoom, TakesAlone, Writes, LaysInOrder, TookOwn}
 use Rattle.py_stream.specs.Answers.{Answers, LifeMoves, PlaceMoves, refused_by}
 use Rattle.py_stream.specs.Keeping.{IsSound, KeepsOn}
 use Rattle.py_stream.specs.Held.{TakesOver, KeepsBoth, OwesHeld}
+use Rattle.py_stream.specs.Moving.{StandsAsBefore}
 use Rattle.py_stream.specs.Settling.{PassesSome, LivesOn, SettleOutcome}
 use Rattle.py_stream.proofs.Refused.{nothing_blocked, work_reaches, says_short, fails_there, fault_answers, starves_alive, starves_there, starve_answers}
 use Rattle.py_stream.proofs.Refusing.{refused_alone}
-use Rattle.py_stream.proofs.Taking.{keeps_then}
+use Rattle.py_stream.proofs.Taking.{keeps_itself, keeps_then}
 use Rattle.py_stream.proofs.Flat.{flat_of, file_now, failed_file}
-use Rattle.py_stream.proofs.PassingOn.{passing_keeps_bytes, passing_file}
+use Rattle.py_stream.proofs.PassingOn.{passes_nothing, just_nothing, passing_keeps_bytes, passing_file}
 use Rattle.py_stream.proofs.Giving.{IsGiving, is_giving, MayGive, Left, answers_left, accepted, works, IsPart, taken_reply, says_all, waited_reply, is_taken, is_blocked, is_faulted, no_tell}
 use Rattle.py_stream.proofs.Given.{part_steps, said_short, GoesOn, goes_on_all}
 use Rattle.py_stream.proofs.Owing.{first_left}
@@ -144,6 +145,14 @@ module _ (before mid after : Stream) (own : List ℕ) (count : ℕ) (fits : coun
     told = λ tells. (count, omega arith, fits, kept_bytes tells);
   }
 
+  -- told: the raw has just those of what was owed that were passed on before
+  kept_just : WhereTold before.raw (after.raw.bytes ≡ lay before.raw.bytes before.owed.place (take passes.passed (before.owed.bytes ++ take count own)))
+  kept_just tells =
+      ap (λ (raw : Raw). raw.bytes) over.raw
+      ∙ goes.just tells
+      ∙ ap (λ (sent : ℕ). lay before.raw.bytes before.owed.place (take sent before.owed.bytes)) (let many : length before.owed.bytes - length mid.owed.bytes ≡ passes.passed = omega (arith, left_many, passes.within) in many)
+      ∙ ap (lay before.raw.bytes before.owed.place) (sym (take-append-le passes.passed before.owed.bytes (take count own) passes.within))
+
   -- where what was owed ended at the place, the first were taken after it
   kept_takes : (short : Bool) → OwesUpTo before.owed before.place → Takes before own (record after { short = short })
   kept_takes short up_to =
@@ -159,6 +168,7 @@ module _ (before mid after : Stream) (own : List ℕ) (count : ℕ) (fits : coun
         owed = behind.0 ∙ ap (λ (bytes : List ℕ). bytes ++ take count own) passes.owed ∙ sym (drop-append-le passes.passed before.owed.bytes (take count own) passes.within);
         up_to = behind.1;
         told = λ tells. (count, omega arith, fits, kept_bytes tells);
+        just = λ lives stands tells. kept_just tells;
       }
 
   -- the raw has a front of what was owed alone
@@ -225,7 +235,9 @@ module _ (before mid after : Stream) (call : FileCall) (reply : FileReply) (coun
 
 -- nothing is passed on of a stream that lives
 lives_itself : (stream : Stream) → IsSound stream → stream.life ≡ life.Live → LivesOn stream stream
-lives_itself stream sound live = grind arith
+lives_itself stream sound live =
+    let stands : StandsAsBefore stream stream = record { kept = keeps_itself stream sound; bytes = λ told. refl; answered = λ told. refl; place = refl; raw_place = refl; owed = refl; held = refl } in
+    record { passes = passes_nothing stream stream stands; live = live; no_fault = λ exact. refl; just = just_nothing stream stream stands }
 
 -- bytes that are all taken into the buffer
 all_answers : (before mid after : Stream) (call : FileCall) → MayKeep before call → LivesOn before mid → ReachesRest before mid (payload call) → KeepsBoth mid (payload call) after → (HasRoom before (payload call) → TakesAlone before call (taken_reply call (length (payload call))) (record after { short = false })) → Answers before call (taken_reply call (length (payload call))) after
@@ -273,13 +285,13 @@ fills_with_none before mid after call may roomless goes waited some gives fills 
 
 -- What stops the passing on before a call takes anything.
 
-module _ (before new : Stream) (call : FileCall) (why : IoFault) (may : MayKeep before call) (roomless : HasRoom before (payload call) → ⊥) (passes : PassesSome before new) where
+module _ (before new : Stream) (call : FileCall) (why : IoFault) (may : MayKeep before call) (roomless : HasRoom before (payload call) → ⊥) (passes : PassesSome before new) (just : new.life ≡ life.Live → HasJust before new) where
   stopped_writes : (new.life ≡ life.Failed → IsTrue (says_no_memory (Refused why)) → ⊥) → BlocksFull call (Refused why) (record new { short = false }) → Writes before call (Refused why) (record new { short = false })
   stopped_writes alive unblocked =
       let left : Stream = record new { short = false } in
       let giving : IsGiving call = is_giving call may.gives.writing in
       let owes : IsTrue (is_writing call) → OwesBoth before (payload call) left = λ _. left_both before new passes (payload call) false in
-      let takes : IsTrue (is_writing call) → OwesUpTo before.owed before.place → Takes before (payload call) left = λ _. left_takes before new passes (payload call) false in
+      let takes : IsTrue (is_writing call) → OwesUpTo before.owed before.place → Takes before (payload call) left = λ _. left_takes before new passes (payload call) false just in
       let room : IsTrue (is_writing call) → HasRoom before (payload call) → TakesAlone before call (Refused why) left = λ _ has. absurd (roomless has) in
       let lays : WhereTold before.raw (LaysInOrder before call new.raw.bytes) = λ tells. giving.lays before new.raw.bytes (left_lays before new passes (payload call) tells) in
       let starves : IsTrue (says_no_memory (Refused why)) → IsTrue (is_writing call) → new.life ≡ life.Failed → TookOwn before left = λ wanting writes failed. absurd (alive failed wanting) in
@@ -306,7 +318,7 @@ stops_failed before after call may roomless fails =
         work_reaches (file_of before) call (works before call may.gives),
         is.faulted (file_of after) (0, omega arith, failed_file before after life.Failed (flat_of before) fails.0.kept fails.1 (passing_keeps_bytes before after fails.0 tells)),
       );
-    }) (stopped_writes before after call fault.RawFault may roomless fails.0 (λ failed wanting. absurd (cc)) (nothing_blocked (record after { short = false }) call fault.RawFault refl))
+    }) (stopped_writes before after call fault.RawFault may roomless fails.0 (λ lives. absurd (let never : life.Live ≡ life.Failed = sym lives ∙ fails.1 in cc)) (λ failed wanting. absurd (cc)) (nothing_blocked (record after { short = false }) call fault.RawFault refl))
 
 -- memory ran out before anything was taken
 pub stops_starved : (before after : Stream) (call : FileCall) → MayKeep before call → (HasRoom before (payload call) → ⊥) → SettleOutcome before (Err fault.NoMemory) after → Answers before call (Refused fault.NoMemory) after
@@ -327,7 +339,7 @@ stops_starved before after call may roomless lacks =
       one = λ one. absurd (cc (not_one before call may));
       answers = starve_answers before.buffer true call (no_tell call may.gives.writing);
       told = λ tells. out_of_memory refl (work_reaches (file_of before) call (works before call may.gives), is.same (file_of after) (passing_file before after passes lives tells));
-    }) (stopped_writes before after call fault.NoMemory may roomless passes (λ failed wanting. let wrong : life.Live ≡ life.Failed = sym goes.live ∙ failed in cc) (nothing_blocked (record after { short = false }) call fault.NoMemory refl))
+    }) (stopped_writes before after call fault.NoMemory may roomless passes (λ lives. goes.just) (λ failed wanting. let wrong : life.Live ≡ life.Failed = sym goes.live ∙ failed in cc) (nothing_blocked (record after { short = false }) call fault.NoMemory refl))
 
 -- such a call isn't refused before the raw is called
 pub accepts_kept : (before : Stream) (call : FileCall) → MayKeep before call → refused_by before call ≡ None

@@ -3,11 +3,12 @@ use Rattle.std.proofs.Common.{◌≡◌, ◌≢◌, ℕ, ◌+◌, ◌-◌, ◌<�
 use Rattle.std.proofs.Math.Seq.{take-nil, drop-nil}
 use Rattle.std.proofs.lemmas.Bool.{cases_lt}
 use Rattle.std.proofs.lemmas.List.{append-nil, take_all, take_min, drop_all, drop-drop, drop-take}
+use Rattle.py_flat.specs.declared.life.Life.TheVariants as life
 use Rattle.py_flat.specs.Bytes.{lay}
 use Rattle.py_flat.specs.Owed.{Owed}
 use Rattle.py_raw.specs.RawStream.{WhereTold, AnswersFor}
 use Rattle.py_stream.specs.Stream.{Stream}
-use Rattle.py_stream.specs.Writing.{OwesUpTo, OwesBehind, HasAt, first_of_both, end_of_both, CoversBoth, OwesTheRest, OwesBoth, Takes, OwesOld, LaysFront}
+use Rattle.py_stream.specs.Writing.{HasJust, OwesUpTo, OwesBehind, HasAt, first_of_both, end_of_both, CoversBoth, OwesTheRest, OwesBoth, Takes, OwesOld, LaysFront}
 use Rattle.py_stream.specs.Settling.{PassesSome}
 use Rattle.py_stream.proofs.Owing.{has_none, has_past, first_alone, last_owed}
 use Rattle.py_stream.proofs.PassingOn.{none_owed_at, passing_keeps_bytes}
@@ -194,8 +195,8 @@ module _ (old new : Stream) (passes : PassesSome old new) where
   }
 
   -- a call that took nothing passed on a front of what was owed
-  pub left_takes : (bytes : List ℕ) (short : Bool) → OwesUpTo old.owed old.place → Takes old bytes (record new { short = short })
-  left_takes bytes short up_to = record {
+  pub left_takes : (bytes : List ℕ) (short : Bool) → (new.life ≡ life.Live → HasJust old new) → OwesUpTo old.owed old.place → Takes old bytes (record new { short = short })
+  left_takes bytes short just up_to = record {
     taken = 0;
     within = omega arith;
     place = omega (arith, passes.still);
@@ -206,6 +207,7 @@ module _ (old new : Stream) (passes : PassesSome old new) where
     owed = passes.owed ∙ ap (drop passes.passed) (sym (append-nil old.owed.bytes));
     up_to = left_up_to up_to;
     told = λ tells. (0, omega arith, omega arith, passing_keeps_bytes old new passes tells);
+    just = λ lives behind tells. just lives tells ∙ ap (λ (count : ℕ). lay old.raw.bytes old.owed.place (take count old.owed.bytes)) (let many : length old.owed.bytes - length new.owed.bytes ≡ passes.passed = omega (arith, as_many, passes.within) in many) ∙ ap (λ (owed : List ℕ). lay old.raw.bytes old.owed.place (take passes.passed owed)) (sym (append-nil old.owed.bytes));
   }
 
   -- nothing of a call's own was laid on the raw's bytes

@@ -1,6 +1,6 @@
 -- A call that passes on what is owed, and what stops it.
 use Rattle.py_stream.specs.Moving.{StandsAsBefore}
-use Rattle.std.proofs.Common.{IsTrue, ◌≡◌, ◌≢◌, ℕ, ◌+◌, ◌<◌, ◌≤◌, Bool, true, false, List, [], ◌∷◌, length, take, drop, Option, Some, Result, Ok, Err, refl, sym, ap, ◌∙◌, subst, arith, length-drop, rules}
+use Rattle.std.proofs.Common.{IsTrue, ◌≡◌, ◌≢◌, ℕ, ◌+◌, ◌-◌, ◌<◌, ◌≤◌, Bool, true, false, List, [], ◌∷◌, length, take, drop, Option, Some, Result, Ok, Err, refl, sym, ap, ◌∙◌, subst, arith, length-drop, rules}
 use Rattle.std.proofs.Math.Seq.{take-add, take-nil, drop-nil}
 use Rattle.std.proofs.lemmas.List.{append-nil, drop-drop, length-take-le}
 use Rattle.py_flat.specs.declared.fault.IoFault.{IoFault}
@@ -16,16 +16,16 @@ use Rattle.py_flat.specs.ExactStep.{is_closed}
 use Rattle.py_flat.specs.AllowedStep.{waited_for, raw_faulted, out_of_memory}
 use Rattle.py_flat.specs.BinaryStep.{is_live, Fails, WaitedBy, FaultedBy, StarvedBy, BinaryStep}
 use Rattle.py_flat.proofs.Laying.{lay_behind, lay_resumes}
-use Rattle.py_raw.proofs.Telling.{keeps_same, tells_still}
+use Rattle.py_raw.proofs.Telling.{keeps_same, tells_still, tells_its_bytes}
 use Rattle.py_raw.proofs.ReadingOn.{no_fault_then, no_wait_then}
 use Rattle.py_raw.specs.RawStream.{WhereTold, KeepsBytes, LeavesCounts, AnswersFor, NoWait, WaitsOnce}
 use Rattle.py_stream.specs.Stream.{Stream, buffering_of, file_of}
 use Rattle.py_stream.specs.Keeping.{IsSound, KeepsOn}
-use Rattle.py_stream.specs.Writing.{OwesBehind, NoneAtPlace, PassesFront, LaysFront, Writes, PassesOn}
+use Rattle.py_stream.specs.Writing.{OwesBehind, NoneAtPlace, PassesFront, LaysFront, HasJust, Writes, PassesOn}
 use Rattle.py_stream.specs.Answers.{moves_back, parts_at_close, Answers, KeepsStream, ClosedWith, InHand, IsShort, LifeMoves, PlaceMoves, IsReplyTo, IsCounted}
 use Rattle.py_stream.specs.Taking.{Took, FailsTaking}
 use Rattle.py_stream.specs.Settling.{PassesSome, PassesJust, LivesOn, FailsBack, SettleOutcome}
-use Rattle.py_stream.proofs.Refused.{nothing_passed, nothing_blocked, says_short, needs_no_end, waits_alive, waits_there, waits_with_none, waits_answer, fails_there, fault_answers, starves_alive, starves_there, starve_answers}
+use Rattle.py_stream.proofs.Refused.{nothing_passed, lacking_passed, nothing_blocked, says_short, needs_no_end, waits_alive, waits_there, waits_with_none, waits_answer, fails_there, fault_answers, starves_alive, starves_there, starve_answers}
 use Rattle.py_stream.proofs.Taking.{keeps_then, answers_then, calm_of, waited_then, waits_once_then, faulted_then}
 use Rattle.py_stream.proofs.Flat.{flat_of, file_now}
 use Rattle.py_stream.proofs.Showing.{Asked, Accepts, Beside, beside_writing, shows_answers, passing_writes}
@@ -36,7 +36,31 @@ begun stream = record stream { short = false }
 
 -- a stream that stands as it stood passed nothing on
 pub passes_nothing : (old new : Stream) → StandsAsBefore old new → PassesSome old new
-passes_nothing old new stands = grind arith
+passes_nothing old new stands = record {
+  kept = stands.kept;
+  passed = 0;
+  within = omega arith;
+  answered = stands.answered;
+  place = grind arith;
+  owed = ap (λ (owed : Owed). owed.bytes) stands.owed;
+  still = stands.place;
+  at = grind arith;
+  stands = grind arith;
+  lays = grind arith;
+  told = grind arith;
+}
+
+-- told, its raw has just none of what it owes
+pub just_nothing : (old new : Stream) → StandsAsBefore old new → HasJust old new
+just_nothing old new stands tells =
+    let none : 0 ≡ length old.owed.bytes - length new.owed.bytes = omega (arith, ap (λ (owed : Owed). length owed.bytes) stands.owed) in
+    stands.bytes (tells_its_bytes old.raw tells) ∙ ap (λ (count : ℕ). lay old.raw.bytes old.owed.place (take count old.owed.bytes)) none
+
+-- told, it has just those that were passed on, as many as aren't owed any more
+pub just_passed : (old new : Stream) (passed : ℕ) → passed ≤ length old.owed.bytes → new.owed.bytes ≡ drop passed old.owed.bytes → WhereTold old.raw (new.raw.bytes ≡ lay old.raw.bytes old.owed.place (take passed old.owed.bytes)) → HasJust old new
+just_passed old new passed within owed told tells =
+    let many : passed ≡ length old.owed.bytes - length new.owed.bytes = omega (arith, within, ap length owed, length-drop passed old.owed.bytes) in
+    told tells ∙ ap (λ (count : ℕ). lay old.raw.bytes old.owed.place (take count old.owed.bytes)) many
 
 -- A stream that owes what lies right before its place.
 
@@ -203,7 +227,8 @@ lacking_answers old new call asked beside takes goes no_wait =
     let shorts : IsShort call reply new.short = subst (IsShort call reply) (sym short) (says_short call fault.NoMemory) in
     let life_is : LifeMoves old.buffer call reply old.life new.life = subst (LifeMoves old.buffer call reply old.life) (sym same) (starves_alive old.buffer call old.life) in
     let place : PlaceMoves old.buffer call reply new.life old.place new.place = subst (PlaceMoves old.buffer call reply new.life old.place) (sym passes.still) (starves_there old.buffer call new.life old.place) in
-    let writes : Writes old call reply new = passing_writes old call reply new asked.none (search (rules, passing_front, nothing_passed, nothing_blocked)) in
+    let justly : PassesOn old call reply new = lacking_passed old new call goes.just in
+    let writes : Writes old call reply new = passing_writes old call reply new asked.none (search (rules, passing_front, nothing_blocked)) in
     let told : WhereTold old.raw (BinaryStep (file_of old) call reply new.short false (file_of new)) = λ tells. out_of_memory refl (asked.reaches, subst (λ (file : FlatFile). StarvedBy (file_of old) call file) (sym (passing_file old new passes same tells)) (asked.none.starves (file_of old))) in
     shows_answers old call reply new asked.none (search (rules, passing_keeps, stays_open, needs_no_end, starve_answers))
 
@@ -284,8 +309,15 @@ passes_then old mid new left passes = record {
   told = grind arith;
 }
 
+-- told, the raw has just that still
+just_then_so : (old mid new : Stream) → LeavesOwed old mid → LivesOn mid new → HasJust old new
+just_then_so old mid new left goes tells =
+    goes.just (tells_still old.raw mid.raw left.kept.raw ∙ tells)
+    ∙ (ap (λ (owed : Owed). lay mid.raw.bytes owed.place (take (length owed.bytes - length new.owed.bytes) owed.bytes)) left.owed
+    ∙ ap (λ (bytes : List ℕ). lay bytes old.owed.place (take (length old.owed.bytes - length new.owed.bytes) old.owed.bytes)) (left.bytes (tells_its_bytes old.raw tells)))
+
 lives_then : (old mid new : Stream) → LeavesOwed old mid → LivesOn mid new → LivesOn old new
-lives_then old mid new left goes = record { passes = passes_then old mid new left goes.passes; live = goes.live; no_fault = no_fault_then old.raw mid.raw new.raw left.kept.raw left.counts.no_fault goes.no_fault }
+lives_then old mid new left goes = record { passes = passes_then old mid new left goes.passes; live = goes.live; just = just_then_so old mid new left goes; no_fault = no_fault_then old.raw mid.raw new.raw left.kept.raw left.counts.no_fault goes.no_fault }
 
 -- a step leaves whether the stream has to move its raw back
 pub moves_still : (old mid : Stream) → KeepsOn old mid → moves_back mid ≡ true → moves_back old ≡ true
@@ -298,7 +330,14 @@ fails_back old mid new kept back = record { moves = moves_still old mid kept bac
 -- all was passed on after such a step
 pub settles_then : (old mid new : Stream) (result : Result (Unit {0}) IoFault) → LeavesOwed old mid → SettleOutcome mid result new → SettleOutcome old result new
 settles_then old mid new (Ok done) left passed = (lives_then old mid new left passed.0, no_wait_then old.raw mid.raw new.raw left.kept.raw left.counts.no_wait passed.1, passed.2)
-settles_then old mid new (Err (fault.WouldBlock taken)) left waits = grind (arith, lives_then, waited_then, waits_once_then)
+settles_then old mid new (Err (fault.WouldBlock taken)) left waits = (
+  waits.0,
+  subst (λ (short : Bool). LivesOn old (record new { short = short })) left.kept.short (lives_then old mid (record new { short = mid.short }) left waits.1),
+  waits.2,
+  waited_then old.raw mid.raw new.raw left.kept.raw waits.3,
+  waits_once_then old.raw mid.raw new.raw left.kept.raw left.counts.no_wait waits.4,
+  waits.5,
+)
 settles_then old mid new (Err fault.RawFault) left fails = (passes_then old mid new left fails.0, fails.1, faulted_then old.raw mid.raw new.raw left.kept.raw fails.2, no_wait_then old.raw mid.raw new.raw left.kept.raw left.counts.no_wait fails.3, λ none. fails_back old mid new left.kept (fails.4 none))
 settles_then old mid new (Err fault.NoMemory) left lacks = (sym left.kept.raw.takes_memory ∙ lacks.0, lives_then old mid new left lacks.1, no_wait_then old.raw mid.raw new.raw left.kept.raw left.counts.no_wait lacks.2)
 settles_then old mid new (Err why) left never = absurd never

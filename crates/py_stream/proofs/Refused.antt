@@ -10,7 +10,7 @@ use Rattle.py_flat.specs.BinaryStep.{payload, is_tell, asks_end, does_work, reac
 use Rattle.py_stream.proofs.Owing.{owes_as_before}
 use Rattle.py_stream.specs.Stream.{Stream, detached_stream}
 use Rattle.py_stream.specs.Kinds.{is_writing, says_would_block, says_no_memory, is_reading, is_single, reads_on, by_several, takes_space_first, asks_none}
-use Rattle.py_stream.specs.Writing.{HasRoom, LaysFront, LaysInOrder, PassesOn, BlocksFull, OwesNoneOfIts, Writes}
+use Rattle.py_stream.specs.Writing.{HasRoom, LaysFront, LaysInOrder, HasJust, PassesOn, BlocksFull, OwesNoneOfIts, Writes}
 use Rattle.py_stream.specs.Answers.{Answers, IsReplyTo, IsShort, StarvesTo, LifeMoves, MovesForth, PlaceFails, PlaceMoves, GivesWithin, SeeksByEnd, IsAnswerTo, HasCauses, parts_at_close}
 use Rattle.py_flat.specs.declared.life.Life.{Life}
 use Rattle.py_flat.specs.Causes.{rose}
@@ -33,9 +33,13 @@ nothing_laid : (before : Stream) (call : FileCall) → LaysInOrder before call b
 nothing_laid before (Truncate size) = record { between = before.raw.bytes; lays = record { passed = 0; more = 0; order = λ some. absurd (some refl); laid = refl }; cuts = inl refl }
 nothing_laid before call = record { passed = 0; more = 0; order = λ some. absurd (some refl); laid = refl }
 
--- a call that was refused need not have passed anything on, unless a wait stopped it
-pub nothing_passed : (before after : Stream) (call : FileCall) (why : IoFault) → says_would_block (Refused why) ≡ false → PassesOn before call (Refused why) after
-nothing_passed before after call why other = grind arith
+-- a call that was refused need not have passed anything on, unless a wait stopped it, or memory ran out
+pub nothing_passed : (before after : Stream) (call : FileCall) (why : IoFault) → says_would_block (Refused why) ≡ false → says_no_memory (Refused why) ≡ false → PassesOn before call (Refused why) after
+nothing_passed before after call why other fed = grind arith
+
+-- where memory ran out, a flush has given the raw just what isn't owed any more
+pub lacking_passed : (before after : Stream) (call : FileCall) → HasJust before after → PassesOn before call (Refused fault.NoMemory) after
+lacking_passed before after call just = grind arith
 
 -- no wait fills the buffer
 pub nothing_blocked : (after : Stream) (call : FileCall) (why : IoFault) → says_would_block (Refused why) ≡ false → BlocksFull call (Refused why) after

@@ -1,5 +1,5 @@
 -- A call that gives or takes bytes, before which all that was owed was passed on: its answer is one of the stream as it was before.
-use Rattle.std.proofs.Common.{◌≡◌, ◌≢◌, ℕ, ◌+◌, ◌-◌, ◌≤◌, ◌⊎◌, inl, inr, max, Bool, true, false, ◌||◌, IsTrue, List, [], ◌++◌, length, take, drop, Option, None, IsSome, Ok, refl, sym, ap, ◌∙◌, subst, arith, length-drop, rules}
+use Rattle.std.proofs.Common.{◌≡◌, ◌≢◌, ℕ, suc, ◌+◌, ◌-◌, ◌≤◌, ◌⊎◌, inl, inr, max, Bool, true, false, ◌||◌, IsTrue, List, [], ◌∷◌, ◌++◌, length, take, drop, Option, None, IsSome, Ok, refl, sym, ap, ◌∙◌, subst, arith, length-drop, rules}
 use Rattle.std.proofs.Math.Seq.{take-nil, drop-nil, drop-append-add}
 use Rattle.std.proofs.lemmas.List.{take_all, drop_all, length-take-le}
 use Rattle.py_flat.specs.declared.life.Life.TheVariants as life
@@ -9,6 +9,7 @@ use Rattle.py_flat.specs.FlatFile.{Abilities, FlatFile}
 use Rattle.py_flat.specs.Owed.{Owed}
 use Rattle.py_flat.specs.BinaryStep.{BinaryStep, payload}
 use Rattle.py_flat.specs.Causes.{Rose, rose}
+use Rattle.py_flat.proofs.Laying.{lay_behind}
 use Rattle.py_raw.specs.declared.reads.Reads.{Reads}
 use Rattle.py_raw.specs.Reads.{after_read}
 use Rattle.py_raw.specs.RawStream.{Keeps, StaysOpen, KeepsReads, WhereTold, WhereTransfers, AnswersFor}
@@ -235,6 +236,26 @@ writing_answers before mid after count passes none more = answers_then before.ra
 writing_lays_taken : (before mid after : Stream) (bytes : List ℕ) → PassesSome before mid → mid.owed.bytes ≡ [] → (takes : Takes (settled_as before mid) bytes after) → LaysTaken before bytes takes.taken after
 writing_lays_taken before mid after bytes passes none takes tells = subst (λ (all : List ℕ). (count : ℕ) × (takes.taken ≤ count) × (count ≤ length bytes) × ((file_of after).bytes ≡ lay all before.place (take count bytes))) (same_bytes before mid passes none tells) (takes.told (tells_still before.raw mid.raw passes.kept.raw ∙ tells))
 
+-- a front that reaches past the first of two lists
+take_past : (first second : List ℕ) (count : ℕ) → take (length first + count) (first ++ second) ≡ first ++ take count second
+take_past [] second count = let same : 0 + count ≡ count = omega arith in ap (λ (n : ℕ). take n second) same
+take_past (byte ∷ more) second count = let same : suc (length more) + count ≡ suc (length more + count) = omega arith in ap (λ (n : ℕ). take n (byte ∷ (more ++ second))) same ∙ ap (λ (rest : List ℕ). byte ∷ rest) (take_past more second count)
+
+-- told, the raw has just all that was owed, and what it answered for of what such a write took
+writing_just : (before mid after : Stream) (bytes : List ℕ) → PassesSome before mid → mid.owed ≡ nothing_owed mid.place → mid.raw_place ≡ mid.place → (takes : Takes (settled_as before mid) bytes after) → after.life ≡ life.Live → OwesBehind before → WhereTold before.raw (after.raw.bytes ≡ lay before.raw.bytes before.owed.place (take (length before.owed.bytes + takes.passed) (before.owed.bytes ++ take takes.taken bytes)))
+writing_just before mid after bytes passes none stands takes lives behind tells =
+    let owed : List ℕ = before.owed.bytes in
+    let new : List ℕ = take takes.taken bytes in
+    let from : ℕ = before.owed.place in
+    let nothing : mid.owed.bytes ≡ [] = ap (λ (own : Owed). own.bytes) none in
+    let at : mid.owed.place ≡ from + length owed = omega (arith, ap (λ (own : Owed). own.place) none, passes.still, behind.ends) in
+    takes.just lives (writing_behind before mid passes none stands) (tells_still before.raw mid.raw passes.kept.raw ∙ tells)
+    ∙ (ap (λ (own : List ℕ). lay mid.raw.bytes mid.owed.place (take takes.passed (own ++ new))) nothing
+    ∙ (ap (λ (place : ℕ). lay mid.raw.bytes place (take takes.passed new)) at
+    ∙ (ap (λ (all : List ℕ). lay all (from + length owed) (take takes.passed new)) (passed_all before mid passes nothing tells)
+    ∙ (lay_behind before.raw.bytes from owed (take takes.passed new)
+    ∙ ap (lay before.raw.bytes from) (sym (take_past owed new takes.passed))))))
+
 -- what a write after a passing on took, and passed on with all that was owed
 writing_takes : (before mid after : Stream) (bytes : List ℕ) → PassesSome before mid → mid.owed ≡ nothing_owed mid.place → mid.raw_place ≡ mid.place → Takes (settled_as before mid) bytes after → Takes before bytes after
 writing_takes before mid after bytes passes none stands takes =
@@ -250,6 +271,7 @@ writing_takes before mid after bytes passes none stands takes =
       owed = takes.owed ∙ ap (λ (owed : List ℕ). drop takes.passed (owed ++ take takes.taken bytes)) nothing ∙ sym (drop-append-add before.owed.bytes (take takes.taken bytes) takes.passed);
       up_to = takes.up_to;
       told = writing_lays_taken before mid after bytes passes nothing takes;
+      just = λ lives behind tells. writing_just before mid after bytes passes none stands takes lives behind tells;
     }
 
 -- what is owed after it is what it took and didn't pass on

@@ -1,6 +1,6 @@
 -- The one contract of buffered streams for the layer above them: what such a stream shows, over a raw stream or in memory, and what a
 -- call of it may answer and leave.
-use Rattle.std.specs.Prelude.{◌≡◌, ◌≢◌, ℕ, ◌+◌, ◌-◌, ◌≤◌, ℤ, pos, suc, zero, Bool, true, false, ◌&&◌, IsTrue, List, [], length, max, Option, Some, None, Result, Ok, Err, if◌then◌else◌}
+use Rattle.std.specs.Prelude.{◌≡◌, ◌≢◌, ℕ, ◌+◌, ◌-◌, ◌≤◌, nat_le, ℤ, pos, suc, zero, Bool, true, false, ◌&&◌, IsTrue, List, [], length, take, max, Option, Some, None, Result, Ok, Err, if◌then◌else◌}
 use Rattle.py_flat.specs.declared.fault.IoFault.{IoFault}
 use Rattle.py_flat.specs.declared.fault.IoFault.TheVariants as fault
 use Rattle.py_flat.specs.declared.life.Life.{Life}
@@ -13,12 +13,12 @@ use Rattle.py_flat.specs.FlatFile.{Abilities, Buffering, Buffered, FlatFile}
 use Rattle.py_flat.specs.Calls.{FileCall, Read1, Write, WriteLines, Seek, Tell, Truncate, Flush, Close, FileReply, Bytes, Place, Done, Refused}
 use Rattle.py_flat.specs.Refusals.{refusal, life_refusal, is_close, lacks, or_else, refused_if, moved_by, target_refusal}
 use Rattle.py_flat.specs.ExactStep.{is_closed}
-use Rattle.py_flat.specs.BinaryStep.{asks_end, payload, BinaryStep}
+use Rattle.py_flat.specs.BinaryStep.{asks_end, is_live, payload, BinaryStep}
 use Rattle.py_raw.specs.RawStream.{Raw, tells, Keeps, StaysOpen, WherePlace, KeepsBytes, KeepsReads, AnswersFor, NoFault, NoWait}
 use Rattle.py_stream.specs.Stream.{Stream, buffering_of, nothing_owed, nothing_held}
 use Rattle.py_stream.specs.Kinds.{is_reading, is_writing, is_single, has_room, outlasts, says_fault, says_no_memory}
-use Rattle.py_stream.specs.Writing.{OwesUpTo, OwesWithin, OwesBoth, Takes, PassesFront, PassedOn, LaysFrontOf, BlocksFull, TookOwn}
-use Rattle.py_stream.specs.Answers.{ClosedWith, parts_at_close, IsAnswerTo, IsReplyTo, IsShort, LifeMoves, PlaceMoves, AtMostOne, ReadsOnce, PassesFirst, CameByReads, SparesBytes, Within, UnlessStopped}
+use Rattle.py_stream.specs.Writing.{OwesUpTo, OwesBehind, OwesWithin, OwesBoth, Takes, PassesFront, PassedOn, HasJust, LaysFrontOf, BlocksFull, TookOwn}
+use Rattle.py_stream.specs.Answers.{ClosedWith, parts_at_close, stands_behind, IsAnswerTo, IsReplyTo, IsShort, LifeMoves, PlaceMoves, AtMostOne, ReadsOnce, PassesFirst, CameByReads, SparesBytes, Within, UnlessStopped}
 
 -- What a buffered stream shows: what its raw shows; where the raw stands, as the stream counts; its own place; what it can do; its life;
 -- how large its buffer is, of 0 bytes in memory; whether a wait cut the last answer short; what it owes its raw; whether bytes of it are
@@ -223,9 +223,11 @@ BufferOwes before (Write bytes) after = BufferOwesBoth before bytes after
 BufferOwes before call after = PassesFront (stream_shown before) (stream_shown after)
 
 -- a flush that was done, and a close of a live stream, passed all on that was owed, and told, the raw has the flat bytes; after a flush of
--- a stream that writes it stands at the place
+-- a stream that writes it stands at the place, where what is owed next will begin. One that ran out of memory gave the raw just what isn't
+-- owed any more
 abbrev pub BufferPasses : Buffer → FileCall → FileReply → Buffer → Type 0
-BufferPasses before Flush Done after = PassedOn (stream_shown before) (stream_shown after) × (before.can.writable ≡ true → after.raw_place ≡ after.place)
+BufferPasses before Flush Done after = PassedOn (stream_shown before) (stream_shown after) × (before.can.writable ≡ true → OwesBehind (stream_shown after))
+BufferPasses before Flush (Refused fault.NoMemory) after = HasJust (stream_shown before) (stream_shown after)
 BufferPasses before Close Done after = before.life ≡ life.Live → PassedOn (stream_shown before) (stream_shown after)
 BufferPasses before call reply after = Unit {0}
 
@@ -317,6 +319,9 @@ pub record AnswersAsBuffer (before : Buffer) (call : FileCall) (reply : FileRepl
   pub taken : after.taken ≡ taken_by call before.place after.place before.taken
   -- what a call passes on
   pub passes : BufferPasses before call reply after
+  -- where what was owed lies right before the place, and the raw stands where that begins, it stands where what is left of that begins; a
+  -- reading may move it
+  pub behind : OwesBehind (stream_shown before) → is_reading call ≡ false → after.owed.bytes ≢ [] → after.raw_place ≡ after.owed.place
 
 -- Asking where the stream stands, and where it ends.
 
@@ -381,3 +386,59 @@ EndsBy None before result after = EndsAt before result after
 -- `end` answers how many bytes there are, and keeps the place; it is refused where `tell` is
 abbrev pub AnswersEnd : Buffer → Result ℕ IoFault → Buffer → Type 0
 AnswersEnd before result after = EndsBy (refusal (flat_of before) Tell) before result after
+
+-- Preparing a flush, and taking back what was written.
+
+-- the raw stands elsewhere, or where it stood: it keeps its bytes, where they are told, answered for no write, brought no byte and wasn't
+-- closed, and never asked to wait; all else is as it was, but for the life
+pub record MovesRawAlone (before after : Buffer) : Type 0 where
+  pub same : after ≡ record before { raw = after.raw; raw_place = after.raw_place; short = false; life = after.life }
+  pub raw : Keeps before.raw after.raw
+  pub stays : StaysOpen before.raw after.raw
+  pub bytes : KeepsBytes before.raw after.raw
+  pub written : AnswersFor 0 before.raw after.raw
+  pub reads : KeepsReads before.raw after.raw
+  pub no_wait : NoWait before.raw after.raw
+
+-- the raw of a stream that writes stands where what is owed begins, which ends at the place, or with nothing owed at the place; the raw of
+-- one that doesn't stands where it stood
+pub record IsPrepared (before after : Buffer) : Type 0 where
+  pub moves : MovesRawAlone before after
+  pub life_is : after.life ≡ before.life
+  pub stands : StandsAsCounted before → StandsAsCounted after
+  pub behind : before.can.writable ≡ true → OwesUpTo before.owed before.place → OwesBehind (stream_shown after)
+  pub no_fault : NoFault before.raw after.raw
+
+-- moving the raw failed, which fails the stream
+pub record FailsPreparing (before after : Buffer) : Type 0 where
+  pub moves : MovesRawAlone before after
+  pub life_is : after.life ≡ life.Failed
+  pub cause : Rose before.raw.faults after.raw.faults
+
+-- an accepted preparing: done, a fault of the raw, or out of memory, of a raw that takes some, with all as it was
+abbrev pub PreparesBy : Buffer → Result (Unit {0}) IoFault → Buffer → Type 0
+PreparesBy before (Ok done) after = IsPrepared before after
+PreparesBy before (Err fault.RawFault) after = FailsPreparing before after
+PreparesBy before (Err fault.NoMemory) after = IsTrue before.raw.takes_memory × (after ≡ record before { short = false })
+PreparesBy before (Err why) after = ⊥
+
+abbrev pub PreparesUnless : Option IoFault → Buffer → Result (Unit {0}) IoFault → Buffer → Type 0
+PreparesUnless (Some why) before result after = (result ≡ Err why) × (after ≡ record before { short = false })
+PreparesUnless None before result after = PreparesBy before result after
+
+-- `prepare_flush` sees to it that the raw stands where a flush begins to write; it is refused where a flush is
+abbrev pub Prepares : Buffer → Result (Unit {0}) IoFault → Buffer → Type 0
+Prepares before result after = PreparesUnless (refusal (flat_of before) Flush) before result after
+
+-- whether the last n bytes that are owed can be taken back: the stream lives, what it owes lies right before its place, its raw stands where
+-- that begins, and so many are owed
+abbrev pub may_take_back : Buffer → ℕ → Bool
+may_take_back buffer count = is_live buffer.life && (stands_behind (stream_shown buffer) && nat_le count (length buffer.owed.bytes))
+
+-- a stream that never took the last n bytes that it owes: it stands before them
+abbrev pub taken_back : ℕ → Buffer → Buffer
+taken_back count buffer = record buffer { place = buffer.place - count; owed = record { bytes = take (length buffer.owed.bytes - count) buffer.owed.bytes; place = buffer.owed.place } }
+
+-- `take_back` takes back the last n bytes that are owed, or leaves all as it is, and answers which
+abbrev pub TakesBack : Buffer → ℕ → Bool → Buffer → Type 0
+TakesBack before count result after = (result ≡ may_take_back before count) × (after ≡ (if result then taken_back count before else before))

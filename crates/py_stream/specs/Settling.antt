@@ -8,7 +8,7 @@ use Rattle.py_flat.specs.Causes.{Rose}
 use Rattle.py_raw.specs.RawStream.{WhereTold, NoFault, NoWait, WaitsOnce, AnswersFor}
 use Rattle.py_stream.specs.Stream.{Stream}
 use Rattle.py_stream.specs.Answers.{moves_back}
-use Rattle.py_stream.specs.Writing.{OwesBehind, NoneAtPlace, LaysFront}
+use Rattle.py_stream.specs.Writing.{OwesBehind, NoneAtPlace, LaysFront, HasJust}
 use Rattle.py_stream.specs.Keeping.{KeepsOn}
 
 -- the first n of the bytes that were owed are passed on, wherever they belong; told, these were laid on, and maybe more of them
@@ -40,11 +40,12 @@ pub record PassesJust (old new : Stream) : Type 0 where
   pub raw_place : new.raw_place ≡ old.raw_place + passed
   pub told : WhereTold old.raw (new.raw.bytes ≡ lay old.raw.bytes old.owed.place (take passed old.owed.bytes))
 
--- some was passed on, or none, and the stream lives on
+-- some was passed on, or none, and the stream lives on; told, the raw has just that
 pub record LivesOn (old new : Stream) : Type 0 where
   pub passes : PassesSome old new
   pub live : new.life ≡ life.Live
   pub no_fault : NoFault old.raw new.raw
+  pub just : HasJust old new
 
 -- the raw has to be moved back, and failed to: it doesn't stand at the place
 pub record FailsBack (old new : Stream) : Type 0 where

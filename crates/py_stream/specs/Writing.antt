@@ -37,7 +37,7 @@ LaysTaken before bytes taken after = WhereTold before.raw ((count : ℕ) × (tak
 -- a call that writes, whatever it answers: the stream took the first n of the bytes, after those that it owed, and
 -- passed on the first of them all, exactly as many as the raw answered for; so it owes a suffix, up to its place. By so many the raw
 -- went forth, where it stood where what was owed begins. Told, those that the stream took are laid on in the flat file, and after a fault
--- of the raw some more may be
+-- of the raw some more may be; and the raw of one that lives on, which stood there, has just those that it answered for
 pub record Takes (before : Stream) (bytes : List ℕ) (after : Stream) : Type 0 where
   pub taken : ℕ
   pub within : taken ≤ length bytes
@@ -49,6 +49,7 @@ pub record Takes (before : Stream) (bytes : List ℕ) (after : Stream) : Type 0 
   pub owed : after.owed.bytes ≡ drop passed (before.owed.bytes ++ take taken bytes)
   pub up_to : OwesUpTo after.owed after.place
   pub told : LaysTaken before bytes taken after
+  pub just : after.life ≡ life.Live → OwesBehind before → WhereTold before.raw (after.raw.bytes ≡ lay before.raw.bytes before.owed.place (take passed (before.owed.bytes ++ take taken bytes)))
 
 -- what is left of the owed bytes is a suffix of them, at the place where it stood
 pub record OwesRest (before after : Owed) : Type 0 where
@@ -195,6 +196,10 @@ pub record PassedOn (before after : Stream) : Type 0 where
   pub none : after.owed.bytes ≡ []
   pub holds : WhereTold before.raw (after.raw.bytes ≡ (file_of before).bytes)
 
+-- told, the raw has just those of the bytes that were owed which aren't any more
+abbrev pub HasJust : (before after : Stream) → Type 0
+HasJust before after = WhereTold before.raw (after.raw.bytes ≡ lay before.raw.bytes before.owed.place (take (length before.owed.bytes - length after.owed.bytes) before.owed.bytes))
+
 -- nothing is owed, and nothing is held; the raw stands at the place, so that a reading goes on from there
 pub record StandsBare (stream : Stream) : Type 0 where
   pub none : stream.owed.bytes ≡ []
@@ -231,9 +236,10 @@ pub record StopsAway (before : Stream) (offset whence : ℤ) : Type 0 where
 
 -- what is done of a live stream leaves nothing owed; after a `flush` the raw stands at the place, and nothing is held; after a `detach`,
 -- which has nothing unwritten, the raw stands there too. A `seek` that leaves the bytes held leaves nothing owed either; only such a one is
--- stopped by a wait
+-- stopped by a wait. A `flush` that ran out of memory gave the raw just what isn't owed any more
 abbrev pub PassesOn : Stream → FileCall → FileReply → Stream → Type 0
 PassesOn before Flush Done after = PassedOn before after × (after.raw_place ≡ after.place) × (after.held ≡ nothing_held after.place)
+PassesOn before Flush (Refused fault.NoMemory) after = HasJust before after
 PassesOn before Close Done after = before.life ≡ life.Live → PassedOn before after
 PassesOn before Detach (Unwritten bytes place) after = before.life ≡ life.Live → PassedOn before after × (bytes ≡ []) × WherePlace before.raw (after.raw.place ≡ after.place)
 PassesOn before (Truncate size) (Place place) after = CutTo before (size_asked before size) after

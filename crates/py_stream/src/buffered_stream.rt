@@ -4,7 +4,7 @@ ghost use Rattle.py_flat.specs.Calls.{FileCall, FileReply, Read1, Write, Seek, T
 ghost use Rattle.py_flat.specs.Refusals.{is_unbuffered};
 ghost use Rattle.py_flat.specs.ExactStep.{is_closed};
 ghost use Rattle.py_stream.specs.Replies.{bytes_reply, count_reply, place_reply, done_reply};
-ghost use Rattle.py_stream.specs.Buffer.{Buffer, size_shown, TellsPlace, AnswersEnd, AnswersAsBuffer};
+ghost use Rattle.py_stream.specs.Buffer.{Buffer, size_shown, TellsPlace, AnswersEnd, AnswersAsBuffer, Prepares, TakesBack};
 
 use py_raw::{IoFault, Life};
 use std::alloc::Global;
@@ -51,6 +51,19 @@ pub trait BufferedStream {
     fn flush(&mut self) -> Result<(), IoFault>
         ensures buffer { AnswersAsBuffer (shows self.old) Flush (done_reply result) (shows self.new) }
         ensures own { own self.old Flush (done_reply result) self.new };
+
+    /// Sees to it that the raw stands where what is owed begins, with nothing owed at the place, so that a flush writes at once: what was
+    /// written until then, and its flush doesn't reach for want of memory, can be taken back. No byte is passed on.
+    ///
+    /// It is refused as `flush` is, with all as it was. `RawFault` fails the stream; `NoMemory`, of a raw that takes some, leaves all as it
+    /// was.
+    fn prepare_flush(&mut self) -> Result<(), IoFault>
+        ensures { Prepares (shows self.old) result (shows self.new) };
+
+    /// Takes back the last n bytes that are owed, as though they had never been written, and answers whether it did: of a live stream that
+    /// owes so many right before its place, whose raw stands where these begin. Else all is as it was. It calls no raw.
+    fn take_back(&mut self, count: usize) -> bool
+        ensures { TakesBack (shows self.old) count result (shows self.new) };
 
     /// Passes on what is owed, and closes the stream. A closed one stays so.
     fn close(&mut self) -> Result<(), IoFault>

@@ -24,6 +24,7 @@ fn main(rt: HostRuntime) -> Result<()> {
     let alloc = rt.alloc();
     print(&rt, making::read_by_hand(alloc))?;
     print(&rt, making::read_by_names(alloc))?;
+    print(&rt, making::read_and_detached(alloc))?;
     print(&rt, making::refused(alloc))?;
     print(&rt, reading::characters_and_lines(alloc))?;
     print(&rt, reading::counted(alloc))?;
@@ -44,5 +45,7 @@ fn main(rt: HostRuntime) -> Result<()> {
     print(&rt, starving::starves(alloc))?;
     print(&rt, writers::to_a_string(alloc))?;
     print(&rt, writers::to_a_sink(alloc))?;
-    print(&rt, writers::to_a_text(alloc))
+    print(&rt, writers::to_a_lent_sink(alloc))?;
+    print(&rt, writers::to_a_text(alloc))?;
+    print(&rt, writers::to_a_raw(alloc))
 }

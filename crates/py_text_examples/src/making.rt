@@ -77,6 +77,30 @@ fn lent_read_by_names(alloc: Global, text: &mut TextIOWrapper<BytesIO>) -> Resul
     Ok(format!(in alloc; "by names: {:?}", characters(&all))?)
 }
 
+/// A text in memory by the coder of utf-8 and strict, which is read to its end and detached.
+pub(crate) fn read_and_detached(alloc: Global) -> Result<String> {
+    let mut registry = CodecsRegistry::<NoSearch, NoHandler>::new(alloc)?;
+    let coder = find_coder(&mut registry, alloc, "utf-8", "strict", true, true)?;
+    let buffer = BytesIO::new(alloc, b"abc".to_vec(alloc)?);
+    let mut text = TextIOWrapper::new(alloc, buffer, coder, TextSettings::default())?;
+    Ok(lent_read_and_detached(alloc, &mut text)?)
+}
+
+/// The reading and detaching of `read_and_detached`, of a text that is lent.
+fn lent_read_and_detached(
+    alloc: Global,
+    text: &mut TextIOWrapper<BytesIO>,
+) -> Result<String, IoFault> {
+    let all = text.read(alloc, None)?; // Some("abc")
+    let buffer = text.detach()?.buffer; // the `BytesIO`
+    let bytes = buffer.getvalue(alloc)?;
+    Ok(format!(in alloc;
+        "read and detached: {:?} {:?}",
+        characters(&all),
+        bytes.as_slice()
+    )?)
+}
+
 /// A text that isn't made hands its buffer back.
 pub(crate) fn refused(alloc: Global) -> Result<String> {
     let buffer = BytesIO::new(alloc, b"a".to_vec(alloc)?);

@@ -66,12 +66,13 @@ impl RawStream for Space {
     }
 }
 
-/// A text with line buffering that fails as its buffer, which took all of a line, finds no memory to pass it on: nothing of it is lost.
+/// A text with line buffering whose buffer finds no memory to pass a line on: it is as though the line had not been written, and the text
+/// goes on.
 pub(crate) fn starves(alloc: Global) -> Result<String> {
-    let mut text = text_into(alloc, 2)?;
-    let failed = lent_starves(alloc, &mut text);
+    let mut text = text_into(alloc, 3)?;
+    let goes_on = lent_starves(alloc, &mut text);
     let (has, owes) = parts_of(alloc, &mut text)?;
-    Ok(format!(in alloc; "starves: {} {has:?} {owes:?}", failed?)?)
+    Ok(format!(in alloc; "starves: {} {has:?} {owes:?}", goes_on?)?)
 }
 
 /// A text with line buffering over a writer into space for so many bytes.
@@ -94,9 +95,9 @@ fn lent_starves(
     text: &mut TextIOWrapper<BufferedWriter<Space>>,
 ) -> Result<bool, IoFault> {
     text.write(alloc, "a\n")?; // the raw has "a\n" now
-    let is_starved = text.write(alloc, "b\n") == Err(IoFault::NoMemory); // its bytes are the buffer's
-    let is_failed = text.write(alloc, "c") == Err(IoFault::Failed); // from then on
-    Ok(is_starved && is_failed)
+    let is_starved = text.write(alloc, "b\n") == Err(IoFault::NoMemory); // nothing of it is written
+    let is_kept = text.write(alloc, "c") == Ok(1); // the text goes on
+    Ok(is_starved && is_kept)
 }
 
 /// The bytes of the raw under a text, which is detached, and those that its buffer owes it.

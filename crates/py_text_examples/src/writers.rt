@@ -2,10 +2,12 @@
 use crate::making::STRICT;
 use crate::writing::bytes_of;
 use anyhow::Result;
-use py_adapters::{IoWriter, PyWriter, Write};
+use py_adapters::{IoWriter, IoWriterRef, PyWriter, Write};
+use py_buffered::BufferedWriter;
 use py_flat::IoFault;
 use py_memio::BytesIO;
-use py_raw::{Failed, MemSink};
+use py_raw::{Failed, MemSink, RawFlags};
+use py_raw_memory::MemRaw;
 use py_text::TextSettings;
 use py_textio::TextIOWrapper;
 use std::alloc::Global;
@@ -31,6 +33,14 @@ pub(crate) fn to_a_sink(alloc: Global) -> Result<String> {
     Ok(format!(in alloc; "to a sink: {is_taken} {fails}")?)
 }
 
+/// A greeting is written to a sink that is lent, and then one byte by the sink's owner, for which there is no room.
+pub(crate) fn to_a_lent_sink(alloc: Global) -> Result<String> {
+    let mut sink = MemSink::with_room(alloc, 7, Vec::new(alloc))?;
+    let is_taken = greet(alloc, &mut IoWriterRef(&mut sink), "b").is_ok(); // all of its 7 bytes
+    let fails = IoWriter(sink).write_text(alloc, "!") == Err(Failed);
+    Ok(format!(in alloc; "to a lent sink: {is_taken} {fails}")?)
+}
+
 /// A greeting is written to a text by its own `write`.
 fn greet_in(alloc: Global, text: &mut TextIOWrapper<BytesIO>) -> Result<(), IoFault> {
     greet(alloc, &mut PyWriter(text), "é")
@@ -49,4 +59,27 @@ pub(crate) fn to_a_text(alloc: Global) -> Result<String> {
 /// The bytes of a text that was greeted.
 fn shown(alloc: Global, bytes: Vec<u8>) -> Result<String> {
     Ok(format!(in alloc; "to a text: {:?}", bytes.as_slice())?)
+}
+
+/// An x is written to a text over a raw, by a writer that is lent the text, which is flushed then.
+pub(crate) fn to_a_raw(alloc: Global) -> Result<String> {
+    let flags = RawFlags::able(false, true, true);
+    let raw = MemRaw::new(Vec::new(alloc), flags, Vec::new(alloc), Vec::new(alloc));
+    let buffer = BufferedWriter::new(alloc, raw, 8192)?;
+    let mut text = TextIOWrapper::new(alloc, buffer, STRICT, TextSettings::default())?;
+    let is_flushed = write_x(alloc, &mut text).is_ok();
+    let has = match text.buffer() {
+        Some(buffer) => match buffer.raw() {
+            Some(raw) => raw.bytes_of() == b"x".as_slice(),
+            None => false,
+        },
+        None => false,
+    };
+    Ok(format!(in alloc; "to a raw: {is_flushed} {has}")?)
+}
+
+/// Writes an x to a text that is lent, and flushes it.
+fn write_x(alloc: Global, text: &mut TextIOWrapper<BufferedWriter<MemRaw>>) -> Result<(), IoFault> {
+    PyWriter(text).write_text(alloc, "x")?;
+    text.flush()
 }

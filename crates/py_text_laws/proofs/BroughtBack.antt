@@ -71,7 +71,7 @@ landing_from file place goal (Stands there) = refl
 landing_from file place goal (CantRestore there) = refl
 
 -- a seek that isn't refused goes to the same place, wherever a text stands
-sought_from : (file : TextFile) (place : TextPlace) (bytes : List ℕ) → refusal file (SeekText bytes (pos zero)) ≡ None → exact (placed file place) (SeekText bytes (pos zero)) ≡ exact file (SeekText bytes (pos zero))
+pub sought_from : (file : TextFile) (place : TextPlace) (bytes : List ℕ) → refusal file (SeekText bytes (pos zero)) ≡ None → exact (placed file place) (SeekText bytes (pos zero)) ≡ exact file (SeekText bytes (pos zero))
 sought_from file place bytes free =
     ap (answered (placed file place) (SeekText bytes (pos zero))) free
     ∙ (landing_from file place (cookie_of bytes) (lands file (cookie_of bytes))

@@ -2,4 +2,4 @@ pub mod Keeping
 pub mod ReadBack
 pub mod SoughtBack
 pub mod Unasked
-mod BroughtBack
+pub mod BroughtBack

@@ -108,10 +108,15 @@ reads_text file text rest behind is =
 free_to_read : (was : Life) (readable : Bool) (size : Option ℕ) → was ≡ life.Live → readable ≡ true → or_else (life_refusal was (Read size)) (or_else (refused_if (not readable) fault.Unsupported) None) ≡ None
 free_to_read was readable size lives can = rw (lives, can) refl
 
-pub read_back : (file : TextFile) (text : List ℕ) → NeedsNoHandler file.settings.encoding text → is_kept file.settings.newline text ≡ true → refusal file (WriteText text) ≡ None → file.can.readable ≡ true → (order : Order) → (exact (placed (after file text) (clean_at file.place.at order)) (Read (Some (len text)))).0 ≡ Text text
-read_back file text none kept accepted readable order =
+-- a text that stands where another was written is read back, whether it may be written or not
+pub read_there : (file : TextFile) (text : List ℕ) → NeedsNoHandler file.settings.encoding text → is_kept file.settings.newline text ≡ true → file.life ≡ life.Live → file.can.readable ≡ true → (order : Order) → (exact (placed (after file text) (clean_at file.place.at order)) (Read (Some (len text)))).0 ≡ Text text
+read_there file text none kept lives readable order =
     let back = placed (after file text) (clean_at file.place.at order) in
-    let later : Option IoFault = or_else (refused_if (not file.can.writable) fault.Unsupported) (argument_refusal file (WriteText text)) in
-    let through : refusal back (Read (Some (len text))) ≡ None = free_to_read file.life file.can.readable (Some (len text)) (lives_by file.life later text accepted) readable in
+    let through : refusal back (Read (Some (len text))) ≡ None = free_to_read file.life file.can.readable (Some (len text)) lives readable in
     ap (λ (why : Option IoFault). (answered back (Read (Some (len text))) why).0) through
     ∙ reads_text back text (text_rest back) (text_rest (placed (after file text) (clean_at (after file text).place.at order))) (left_written file text none kept order)
+
+pub read_back : (file : TextFile) (text : List ℕ) → NeedsNoHandler file.settings.encoding text → is_kept file.settings.newline text ≡ true → refusal file (WriteText text) ≡ None → file.can.readable ≡ true → (order : Order) → (exact (placed (after file text) (clean_at file.place.at order)) (Read (Some (len text)))).0 ≡ Text text
+read_back file text none kept accepted readable order =
+    let later : Option IoFault = or_else (refused_if (not file.can.writable) fault.Unsupported) (argument_refusal file (WriteText text)) in
+    read_there file text none kept (lives_by file.life later text accepted) readable order

@@ -35,7 +35,7 @@ clean_written file text accepted =
     test_none file.place.dirty fault.SeekFirst (or_none (dirty_refusal file) _ (all_none file (WriteText text) accepted).1).0
 
 -- a text from which nothing was read is told by its byte
-told_by_byte : (file : TextFile) → StandsInText file → file.place.dirty ≡ false → file.place.order ≡ Unknown → told file ≡ boundary_cookie file.place.at 0
+pub told_by_byte : (file : TextFile) → StandsInText file → file.place.dirty ≡ false → file.place.order ≡ Unknown → told file ≡ boundary_cookie file.place.at 0
 told_by_byte file stands clean order =
     let still = stands.clean clean in
     let found : find (gives_rest file) (boundaries file) ≡ Some file.place.at = cond-true (gives_rest file file.place.at) _ _ (gives_here file still.0 still.1) in
@@ -46,7 +46,7 @@ told_by_byte file stands clean order =
 free_to_tell : (was : Life) (seekable : Bool) → was ≡ life.Live → seekable ≡ true → or_else (life_refusal was Tell) (or_else (refused_if (not seekable) fault.Unsupported) None) ≡ None
 free_to_tell was seekable lives able = rw (lives, able) refl
 
-exact_told : (file : TextFile) → file.life ≡ life.Live → file.can.seekable ≡ true → exact file Tell ≡ (CookieReply (cookie_bytes (told file)), file)
+pub exact_told : (file : TextFile) → file.life ≡ life.Live → file.can.seekable ≡ true → exact file Tell ≡ (CookieReply (cookie_bytes (told file)), file)
 exact_told file lives able = ap (answered file Tell) (free_to_tell file.life file.can.seekable lives able)
 
 -- what is answered with a cookie was not refused
@@ -55,7 +55,7 @@ answered_free file call None bytes is = refl
 answered_free file call (Some fault) bytes is = absurd (cc)
 
 -- a text in which another was written is sought to the cookie that was told before
-exact_sought : (file : TextFile) (text : List ℕ) → StandsInText file → LiesInReach file → file.place.order ≡ Unknown → file.place.dirty ≡ false → file.life ≡ life.Live → file.can.seekable ≡ true → file.can.appending ≡ false → exact (after file text) (SeekText (cookie_bytes (told file)) (pos zero)) ≡ (CookieReply (cookie_bytes (told file)), placed (after file text) (clean_at file.place.at Unknown))
+pub exact_sought : (file : TextFile) (text : List ℕ) → StandsInText file → LiesInReach file → file.place.order ≡ Unknown → file.place.dirty ≡ false → file.life ≡ life.Live → file.can.seekable ≡ true → file.can.appending ≡ false → exact (after file text) (SeekText (cookie_bytes (told file)) (pos zero)) ≡ (CookieReply (cookie_bytes (told file)), placed (after file text) (clean_at file.place.at Unknown))
 exact_sought file text stands reach order clean lives able forward =
     let cookie : List ℕ = cookie_bytes (told file) in
     let here : told file ≡ boundary_cookie file.place.at 0 = told_by_byte file stands clean order in

@@ -95,6 +95,16 @@ impl Flat {
         Ok(())
     }
 
+    /// The place of the first of so many bytes up to where it stands.
+    pub fn place_of(&self, count: usize) -> usize {
+        self.place.saturating_sub(count)
+    }
+
+    /// Whether these are its bytes.
+    pub fn has(&self, bytes: &[u8]) -> bool {
+        bytes == self.bytes.as_slice()
+    }
+
     /// Whether what stands once a text is taken apart is these bytes.
     pub fn is_held(&self, alloc: Global, apart: &Apart) -> Result<bool, AllocError> {
         Ok(apart.is_joined() && apart.all(alloc)?.as_slice() == self.bytes.as_slice())

@@ -1,7 +1,7 @@
 //! Writes texts beside the plain slow text, in every encoding, by every handler and newline rule, in pieces of many sizes, in chunks and
-//! through buffers of many sizes, by themselves and as sessions, over raw streams that move a byte at a time, wait before any transfer or
-//! fail at any call, up to a flush, a close, a detach or none of these, and prints how many answers came; it ends at the first that
-//! differs. Before that it runs the cases of the files that are its words. `stdout` has what must come.
+//! through buffers of many sizes, by themselves and as sessions, over raw streams that move a byte at a time, wait before any transfer,
+//! fail at any call or run out of memory, up to a flush, a close, a detach or none of these, and prints how many answers came; it ends at
+//! the first that differs. Before that it runs the cases of the files that are its words. `stdout` has what must come.
 //!
 //! Nothing here is clever: it is code to be read and trusted, and only its safety is proved.
 #![tactic(auto)]
@@ -13,6 +13,7 @@ mod handed_over;
 mod pieces;
 mod runs;
 mod shown;
+mod starved;
 mod sweep;
 mod writing;
 
@@ -64,5 +65,10 @@ fn main(rt: HostRuntime) -> Result<()> {
     ] {
         run_sweep(&rt, which)?;
     }
+    let counts = starved::starve_each(rt.alloc())?;
+    println!(rt;
+        "starved: {} texts, {} answers, {} refused, {} starved, {} failed",
+        counts.texts, counts.answers, counts.refused, counts.waits, counts.faults
+    )?;
     Ok(())
 }

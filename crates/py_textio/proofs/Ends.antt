@@ -183,7 +183,7 @@ starves_over : (old mid : WrittenView) (sought : List ℕ) (reply : FileReply) (
 starves_over old mid sought (Refused fault.NoMemory) new asked current (inl stays) = inl (record { life_is = stays.life_is ∙ current; settings = stays.settings ∙ asked.over.keeps.settings; place = stays.place ∙ place_over old mid asked })
 starves_over old mid sought (Refused fault.NoMemory) new asked current (inr (inl failed)) = inr (inl (record { life_is = failed.life_is; takes = sym asked.asks.raw.takes_memory ∙ failed.takes; has = subst (λ (own : List ℕ). own ++ [] ≢ []) asked.over.pending failed.has; gave = by_gave failed.gave }))
   where
-    by_gave : GaveOwn false (over_of mid) new → GaveOwn false (over_of old) new
+    by_gave : GaveOwn false 0 (over_of mid) new → GaveOwn false 0 (over_of old) new
     by_gave (inl took) = inl (gave_over old mid new asked took)
     by_gave (inr all) = let never : false ≡ true = all.0 in absurd (cc)
 starves_over old mid sought (Refused fault.NoMemory) new asked current (inr (inr moved)) = inr (inr (record { seeks = moved.seeks; takes = sym asked.asks.raw.takes_memory ∙ moved.takes; life_is = moved.life_is ∙ current; settings = moved.settings ∙ asked.over.keeps.settings }))

@@ -3,6 +3,7 @@ mod Refusing
 mod Changing
 mod Telling
 mod Settling
+mod Giving
 mod Working
 mod Over
 mod Stopping

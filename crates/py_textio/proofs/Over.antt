@@ -106,8 +106,8 @@ owes_behind old mid new call keeps first settings place second = record {
 }
 
 -- bytes that went on of a text whose buffer had taken all that it owed
-gave_behind : (old mid : WrittenView) (flushes : Bool) (new : TextOver Buffer) → HandsOn old false false mid → mid.pending ≡ [] → GaveOwn flushes (over_of mid) new → GaveOwn flushes (over_of old) new
-gave_behind old mid flushes new hands none gave = by_gave gave
+gave_behind : (old mid : WrittenView) (flushes : Bool) (given : ℕ) (new : TextOver Buffer) → HandsOn old false false mid → mid.pending ≡ [] → GaveOwn flushes given (over_of mid) new → GaveOwn flushes given (over_of old) new
+gave_behind old mid flushes given new hands none gave = by_gave gave
   where
     at : (place_now mid).at ≡ (place_now old).at
     at = ap (λ (place : TextPlace). place.at) hands.place
@@ -119,8 +119,8 @@ gave_behind old mid flushes new hands none gave = by_gave gave
     left : length mid.text.buffer.owed.bytes + hands.owes.passed ≡ length old.text.buffer.owed.bytes + length old.pending
     left = omega (arith, hands.owes.most, ap length hands.owes.rest, length-drop hands.owes.passed (all_owed (over_of old)), length-append mid.text.buffer.owed.bytes mid.pending, length-append old.text.buffer.owed.bytes old.pending, ap length none)
 
-    by_gave : GaveOwn flushes (over_of mid) new → GaveOwn flushes (over_of old) new
-    by_gave (inr all) = inr (all.0, record { further = omega (arith, all.1.further, from); none = all.1.none })
+    by_gave : GaveOwn flushes given (over_of mid) new → GaveOwn flushes given (over_of old) new
+    by_gave (inr took) = inr took
     by_gave (inl took) = inl (
       took.0,
       record {
@@ -132,7 +132,7 @@ gave_behind old mid flushes new hands none gave = by_gave gave
 
 starves_behind : (old mid : WrittenView) (call : TextFileCall) (reply : FileReply) (new : TextOver Buffer) → HandsOn old false false mid → old.pending ≢ [] → mid.pending ≡ [] → mid.life ≡ old.life → Starves (over_of mid) call reply new → Starves (over_of old) call reply new
 starves_behind old mid call (Refused fault.NoMemory) new hands owes none current (inl stays) = inl (record { life_is = stays.life_is ∙ current; settings = stays.settings ∙ hands.settings; place = stays.place ∙ hands.place })
-starves_behind old mid call (Refused fault.NoMemory) new hands owes none current (inr (inl failed)) = inr (inl (record { life_is = failed.life_is; takes = sym hands.calls.keeps.raw.takes_memory ∙ failed.takes; has = has_own (over_of old) call owes; gave = subst (λ (settings : TextSettings). GaveOwn (flushes_behind settings call) (over_of old) new) hands.settings (gave_behind old mid (flushes_behind mid.text.settings call) new hands none failed.gave) }))
+starves_behind old mid call (Refused fault.NoMemory) new hands owes none current (inr (inl failed)) = inr (inl (record { life_is = failed.life_is; takes = sym hands.calls.keeps.raw.takes_memory ∙ failed.takes; has = has_own (over_of old) call owes; gave = subst (λ (settings : TextSettings). GaveOwn (flushes_behind settings call) (length (given_by settings call)) (over_of old) new) hands.settings (gave_behind old mid (flushes_behind mid.text.settings call) (length (given_by mid.text.settings call)) new hands none failed.gave) }))
 starves_behind old mid call (Refused fault.NoMemory) new hands owes none current (inr (inr moved)) = inr (inr (record { seeks = moved.seeks; takes = sym hands.calls.keeps.raw.takes_memory ∙ moved.takes; life_is = moved.life_is ∙ current; settings = moved.settings ∙ hands.settings }))
 starves_behind old mid call reply new hands owes none current starves = tt
 

@@ -1,5 +1,5 @@
 -- What is owed is handed on, and the text stays as it is.
-use Rattle.std.proofs.Common.{◌≡◌, ◌≢◌, ℕ, ◌+◌, ◌-◌, ◌<◌, ◌≤◌, inl, inr, ◌⊎◌, nat_eq, ◌&&◌, Bool, true, false, IsTrue, List, [], ◌∷◌, ◌++◌, length, take, drop, Option, None, Some, Result, Ok, Err, refl, sym, ap, ◌∙◌, subst, arith, append-nil}
+use Rattle.std.proofs.Common.{◌≡◌, ◌≢◌, ℕ, ◌+◌, ◌-◌, ◌<◌, ◌≤◌, inl, inr, ◌⊎◌, nat_eq, ◌&&◌, Bool, true, false, List, [], ◌∷◌, ◌++◌, length, take, drop, Option, None, Some, Result, Ok, Err, refl, sym, ap, ◌∙◌, subst, arith, append-nil}
 use Rattle.std.proofs.lemmas.List.{length-drop, drop_all, length-append}
 use Rattle.py_flat.specs.declared.fault.IoFault.{IoFault}
 use Rattle.py_flat.specs.declared.fault.IoFault.TheVariants as fault
@@ -31,10 +31,10 @@ use Rattle.py_read_text.specs.Reading.{KeepsPlace}
 use Rattle.py_read_text.specs.Writing.{unit_of, StandsBehind, LeavesFlat, ReturnOutcome}
 use Rattle.py_raw.proofs.Telling.{keeps_same, tells_still}
 use Rattle.py_read_text.proofs.Placing.{accepts_write, flush_flat}
-use Rattle.py_read_text.proofs.Calling.{all_passed, accepts_flush}
+use Rattle.py_read_text.proofs.Calling.{all_passed}
 use Rattle.py_read_text.proofs.Owing.{passes_none, passes_then, passes_behind, front_passes, takes_passed, open_still, open_then, open_of, open_called}
 use Rattle.py_textio.proofs.Over.{calls_on}
-use Rattle.py_textio.specs.Written.{WrittenView, behind_owed, place_now, over_of, state_of, CallsBuffer, HandsOn, StandsToWrite, TakesNothing, LetsGo, IsWritten, SettleOutcome, BackOutcome, PassOutcome, HandOutcome, HandsOnOnce, TookPending, with_taken}
+use Rattle.py_textio.specs.Written.{WrittenView, behind_owed, over_of, state_of, CallsBuffer, HandsOn, StandsToWrite, TakesNothing, kept_of, LetsGo, IsWritten, SettleOutcome, BackOutcome, PassOutcome, GivesOutcome, HandsOnOnce, with_taken}
 use Rattle.py_read_text.proofs.Fronts.{lays_none, lays_both, lays_alone, lays_owed, lays_on, lays_still}
 
 -- The place of a text that owes bytes.
@@ -371,10 +371,7 @@ hands_itself view = record {
   stays = open_still view.text.buffer;
 }
 
-pub passed_not : (now : WrittenView) (count : ℕ) (flushes : Bool) → flushes ≡ false → now.life ≡ life.Live → now.pending ≡ [] → 0 < now.text.settings.chunk_size → PassOutcome now count flushes (Ok tt) now
-passed_not now count flushes none live owes asks = (hands_itself now, live, record { few = omega (arith, ap length owes, asks); none = λ through. owes }, λ is. let never : true ≡ false = sym is ∙ none in absurd (cc))
-
-flush_calls : (before after : Buffer) (reply : FileReply) → AnswersAsBuffer before Flush reply after → CallsBuffer before after.short (says_fault reply) after
+pub flush_calls : (before after : Buffer) (reply : FileReply) → AnswersAsBuffer before Flush reply after → CallsBuffer before after.short (says_fault reply) after
 flush_calls before after reply answers = record {
   keeps = answers.keeps;
   wait = answers.causes.waits;
@@ -383,7 +380,7 @@ flush_calls before after reply answers = record {
   stands = λ stood. answers.stands;
 }
 
-hands_flush : (old new : TextView) (pending : List ℕ) (room more : ℕ) (before after : Life) (reply : FileReply) → IsJoined (over_of (view_of old pending room before)) → pending ≡ [] → old.buffer.exported ≡ false → KeepsPlace old new → AnswersAsBuffer old.buffer Flush reply new.buffer → old.buffer.life ≡ life.Live → (new.buffer.life ≡ life.Live) ⊎ (new.buffer.life ≡ life.Failed) → HandsOn (view_of old pending room before) new.buffer.short (says_fault reply) (view_of new pending more after)
+pub hands_flush : (old new : TextView) (pending : List ℕ) (room more : ℕ) (before after : Life) (reply : FileReply) → IsJoined (over_of (view_of old pending room before)) → pending ≡ [] → old.buffer.exported ≡ false → KeepsPlace old new → AnswersAsBuffer old.buffer Flush reply new.buffer → old.buffer.life ≡ life.Live → (new.buffer.life ≡ life.Live) ⊎ (new.buffer.life ≡ life.Failed) → HandsOn (view_of old pending room before) new.buffer.short (says_fault reply) (view_of new pending more after)
 hands_flush old new pending room more before after reply was none kept place answers live lives = record {
   calls = flush_calls old.buffer new.buffer reply answers;
   bytes = λ told.
@@ -397,8 +394,8 @@ hands_flush old new pending room more before after reply was none kept place ans
   stays = open_of old.buffer new.buffer live lives (answers.stays refl);
 }
 
-pub passed_all : (now : WrittenView) (old new : TextView) (pending : List ℕ) (room more count : ℕ) (before after : Life) (flushes : Bool) → view_of old pending room before ≡ now → IsWritten old pending before → now.life ≡ life.Live → now.pending ≡ [] → KeepsPlace old new → AnswersAsBuffer old.buffer Flush Done new.buffer → after ≡ life.Live → PassOutcome now count flushes (Ok tt) (view_of new pending more after)
-passed_all now old new pending room more count before after flushes same is live owes place answers lives =
+pub passed_all : (now : WrittenView) (old new : TextView) (pending : List ℕ) (room more count : ℕ) (before after : Life) → view_of old pending room before ≡ now → IsWritten old pending before → now.life ≡ life.Live → now.pending ≡ [] → KeepsPlace old new → AnswersAsBuffer old.buffer Flush Done new.buffer → after ≡ life.Live → PassOutcome now count (Ok tt) (view_of new pending more after)
+passed_all now old new pending room more count before after same is live owes place answers lives =
     let none : pending ≡ [] = ap (λ (view : WrittenView). view.pending) same ∙ owes in
     let live_buffer : old.buffer.life ≡ life.Live = is.lives (ap (λ (view : WrittenView). view.life) same ∙ live) in
     let short : new.buffer.short ≡ false = answers.shorts in
@@ -406,12 +403,12 @@ passed_all now old new pending room more count before after flushes same is live
       subst (λ (view : WrittenView). HandsOn view false false (view_of new pending more after)) same (subst (λ (waited : Bool). HandsOn (view_of old pending room before) waited false (view_of new pending more after)) short (hands_flush old new pending room more before after Done (joined_with old pending room before is) none is.kept place answers live_buffer (inl (answers.moves.life_is ∙ live_buffer)))),
       lives,
       record { few = omega (arith, ap length none, asks); none = λ through. none },
-      λ flushed. record { own = none; none = answers.passes.0.none; holds = λ told. all_passed new.buffer answers.passes.0.none ∙ sym (ap (λ (owed : List ℕ). lay (flat_of new.buffer).bytes new.buffer.place owed) none) },
+      record { own = none; none = answers.passes.0.none; holds = λ told. all_passed new.buffer answers.passes.0.none ∙ sym (ap (λ (owed : List ℕ). lay (flat_of new.buffer).bytes new.buffer.place owed) none) },
     )
 
 -- the raw would have blocked before the buffer had passed on all
-pub passed_blocked : (now : WrittenView) (old new : TextView) (pending : List ℕ) (room more count taken : ℕ) (before after : Life) (flushes : Bool) → view_of old pending room before ≡ now → IsWritten old pending before → now.life ≡ life.Live → now.pending ≡ [] → KeepsPlace old new → AnswersAsBuffer old.buffer Flush (Refused (fault.WouldBlock taken)) new.buffer → after ≡ life.Live → PassOutcome now count flushes (Err (fault.WouldBlock count)) (view_of new pending more after)
-passed_blocked now old new pending room more count taken before after flushes same is live owes place answers lives =
+pub passed_blocked : (now : WrittenView) (old new : TextView) (pending : List ℕ) (room more count taken : ℕ) (before after : Life) → view_of old pending room before ≡ now → IsWritten old pending before → now.life ≡ life.Live → now.pending ≡ [] → KeepsPlace old new → AnswersAsBuffer old.buffer Flush (Refused (fault.WouldBlock taken)) new.buffer → after ≡ life.Live → PassOutcome now count (Err (fault.WouldBlock count)) (view_of new pending more after)
+passed_blocked now old new pending room more count taken before after same is live owes place answers lives =
     let none : pending ≡ [] = ap (λ (view : WrittenView). view.pending) same ∙ owes in
     let live_buffer : old.buffer.life ≡ life.Live = is.lives (ap (λ (view : WrittenView). view.life) same ∙ live) in
     let short : new.buffer.short ≡ true = answers.shorts in (
@@ -421,29 +418,18 @@ passed_blocked now old new pending room more count taken before after flushes sa
       record { full = λ some. absurd (some none); some = λ gives own. answers.full.1 },
     )
 
-pub passed_waits : (now : WrittenView) (old new : TextView) (pending : List ℕ) (room more count : ℕ) (before after : Life) (flushes : Bool) (why : IoFault) → view_of old pending room before ≡ now → IsWritten old pending before → now.life ≡ life.Live → now.pending ≡ [] → KeepsPlace old new → AnswersAsBuffer old.buffer Flush (Refused why) new.buffer → says_wait (Refused why) ≡ true → after ≡ before → PassOutcome now count flushes (Err (with_taken why count)) (view_of new pending more after)
-passed_waits now old new pending room more count before after flushes (fault.WouldBlock taken) same is live owes place answers waits current = passed_blocked now old new pending room more count taken before after flushes same is live owes place answers (current ∙ (ap (λ (view : WrittenView). view.life) same ∙ live))
-passed_waits now old new pending room more count before after flushes other same is live owes place answers waits current = absurd (cc)
+pub passed_waits : (now : WrittenView) (old new : TextView) (pending : List ℕ) (room more count : ℕ) (before after : Life) (why : IoFault) → view_of old pending room before ≡ now → IsWritten old pending before → now.life ≡ life.Live → now.pending ≡ [] → KeepsPlace old new → AnswersAsBuffer old.buffer Flush (Refused why) new.buffer → says_wait (Refused why) ≡ true → after ≡ before → PassOutcome now count (Err (with_taken why count)) (view_of new pending more after)
+passed_waits now old new pending room more count before after (fault.WouldBlock taken) same is live owes place answers waits current = passed_blocked now old new pending room more count taken before after same is live owes place answers (current ∙ (ap (λ (view : WrittenView). view.life) same ∙ live))
+passed_waits now old new pending room more count before after other same is live owes place answers waits current = absurd (cc)
 
--- the raw failed as the buffer passed on, or memory ran out
-pub passed_failed : (now : WrittenView) (old new : TextView) (pending : List ℕ) (room more count : ℕ) (before after : Life) (flushes : Bool) (why : IoFault) → view_of old pending room before ≡ now → IsWritten old pending before → now.life ≡ life.Live → now.pending ≡ [] → flushes ≡ true → KeepsPlace old new → AnswersAsBuffer old.buffer Flush (Refused why) new.buffer → says_wait (Refused why) ≡ false → after ≡ life.Failed → PassOutcome now count flushes (Err why) (view_of new pending more after)
-passed_failed now old new pending room more count before after flushes (fault.WouldBlock taken) same is live owes flushed place answers calm failed = absurd (cc)
-passed_failed now old new pending room more count before after flushes fault.RawFault same is live owes flushed place answers calm failed =
+-- the raw failed as the buffer passed on
+pub passed_faulted : (now : WrittenView) (old new : TextView) (pending : List ℕ) (room more count : ℕ) (before after : Life) (why : IoFault) → view_of old pending room before ≡ now → IsWritten old pending before → now.life ≡ life.Live → now.pending ≡ [] → KeepsPlace old new → AnswersAsBuffer old.buffer Flush (Refused why) new.buffer → says_fault (Refused why) ≡ true → after ≡ life.Failed → PassOutcome now count (Err fault.RawFault) (view_of new pending more after)
+passed_faulted now old new pending room more count before after fault.RawFault same is live owes place answers faults failed =
     let none : pending ≡ [] = ap (λ (view : WrittenView). view.pending) same ∙ owes in
     let live_buffer : old.buffer.life ≡ life.Live = is.lives (ap (λ (view : WrittenView). view.life) same ∙ live) in
     let short : new.buffer.short ≡ false = answers.shorts in
     (subst (λ (view : WrittenView). HandsOn view false true (view_of new pending more after)) same (subst (λ (waited : Bool). HandsOn (view_of old pending room before) waited true (view_of new pending more after)) short (hands_flush old new pending room more before after (Refused fault.RawFault) (joined_with old pending room before is) none is.kept place answers live_buffer (inr answers.moves.life_is))), failed)
-passed_failed now old new pending room more count before after flushes fault.NoMemory same is live owes flushed place answers calm failed =
-    let none : pending ≡ [] = ap (λ (view : WrittenView). view.pending) same ∙ owes in
-    let live_buffer : old.buffer.life ≡ life.Live = is.lives (ap (λ (view : WrittenView). view.life) same ∙ live) in
-    let short : new.buffer.short ≡ false = answers.shorts in (
-      subst (λ (view : WrittenView). HandsOn view false false (view_of new pending more after)) same (subst (λ (waited : Bool). HandsOn (view_of old pending room before) waited false (view_of new pending more after)) short (hands_flush old new pending room more before after (Refused fault.NoMemory) (joined_with old pending room before is) none is.kept place answers live_buffer (inl (answers.moves.life_is ∙ live_buffer)))),
-      failed,
-      flushed,
-      none,
-      subst (λ (view : WrittenView). IsTrue view.text.buffer.raw.takes_memory) same (answers.wants refl refl),
-    )
-passed_failed now old new pending room more count before after flushes other same is live owes flushed place answers calm failed = absurd (answers.answer (accepts_flush old.buffer (is.lives (ap (λ (view : WrittenView). view.life) same ∙ live)) is.kept))
+passed_faulted now old new pending room more count before after other same is live owes place answers faults failed = absurd (cc)
 
 pub hands_on : (old mid new : WrittenView) (waited faulted : Bool) → IsJoined (over_of old) → IsJoined (over_of mid) → HandsOn old false false mid → HandsOn mid waited faulted new → HandsOn old waited faulted new
 hands_on old mid new waited faulted was is first second = record {
@@ -456,58 +442,49 @@ hands_on old mid new waited faulted was is first second = record {
   stays = open_then old.text.buffer mid.text.buffer new.text.buffer first.stays second.stays;
 }
 
-some_long : (bytes : List ℕ) → bytes ≢ [] → 0 < length bytes
-some_long [] some = absurd (some refl)
-some_long (byte ∷ more) some = omega arith
-
--- where a text owes nothing itself any more, all that it owed went on
-went_on : (old new : WrittenView) → old.pending ≢ [] → place_now new ≡ place_now old → new.pending ≡ [] → own_from (over_of old) < own_from (over_of new)
-went_on old new some place none = omega (arith, own_from_is old, ap (λ (own : TextPlace). own.at) place, ap (λ (own : TextPlace). own.at) (behind_so (place_of old.text) old.pending), ap length none, some_long old.pending some)
-
--- what was passed on of a text whose buffer took what it owed, or that owed nothing and has nothing to flush
-pub passed_behind : (old mid new : WrittenView) (count : ℕ) (flushes : Bool) (result : Result (Unit {0}) IoFault) → IsJoined (over_of old) → IsJoined (over_of mid) → HandsOn old false false mid → PassOutcome mid count flushes result new → (flushes ≡ true → old.pending ≢ []) → HandOutcome old count flushes result new
-passed_behind old mid new count flushes (Ok done) was is hands outcome some = (hands_on old mid new false false was is hands outcome.0, outcome.1, outcome.2, outcome.3)
-passed_behind old mid new count flushes (Err (fault.WouldBlock taken)) was is hands outcome some = (hands_on old mid new true false was is hands outcome.0, outcome.1, outcome.2, outcome.3)
-passed_behind old mid new count flushes (Err fault.RawFault) was is hands outcome some = (hands_on old mid new false true was is hands outcome.0, outcome.1)
-passed_behind old mid new count flushes (Err fault.NoMemory) was is hands outcome some =
-    let on = hands_on old mid new false false was is hands outcome.0 in
-    inl (on, outcome.1, some outcome.2, inr (outcome.2, record { further = went_on old new (some outcome.2) on.place outcome.3; none = outcome.3 }), sym hands.calls.keeps.raw.takes_memory ∙ outcome.4)
-passed_behind old mid new count flushes (Err other) was is hands outcome some = absurd outcome
-
--- where no flush was to follow, the buffer was called for one write alone
-pub handed_once : (old mid new : WrittenView) (flushes : Bool) (result : Result (Unit {0}) IoFault) → SettleOutcome old (Ok tt) mid → (flushes ≡ false → new ≡ mid) → HandsOnOnce old flushes result new
-handed_once old mid new flushes (Ok done) took still = λ is. inr (subst (λ (view : WrittenView). (view.pending ≡ []) × TookPending old view) (sym (still is)) (took.1, took.3))
-handed_once old mid new flushes (Err why) took still = tt
-
 -- what is owed couldn't be handed on, and the text isn't as it was
-pub handed_not : (old new : WrittenView) (count : ℕ) (flushes : Bool) (why : IoFault) → old.pending ≢ [] → SettleOutcome old (Err why) new → (why ≡ fault.NoMemory → new.life ≢ life.Live) → HandOutcome old count flushes (Err (with_taken why count)) new
-handed_not old new count flushes (fault.WouldBlock taken) some outcome failed = (outcome.0, outcome.2, refl, record { full = λ left. outcome.4; some = λ gives own. absurd (outcome.1 own) })
-handed_not old new count flushes fault.RawFault some outcome failed = (outcome.0, outcome.1)
-handed_not old new count flushes fault.NoMemory some outcome failed = by_life outcome.2
+pub handed_not : (old new : WrittenView) (count : ℕ) (why : IoFault) → old.pending ≢ [] → SettleOutcome old (Err why) new → (why ≡ fault.NoMemory → new.life ≢ life.Live) → GivesOutcome old count (Err (with_taken why count)) new
+handed_not old new count (fault.WouldBlock taken) some outcome failed = (outcome.0, outcome.2, refl, record { full = λ left. outcome.4; some = λ gives own. absurd (outcome.1 own) })
+handed_not old new count fault.RawFault some outcome failed = (outcome.0, outcome.1)
+handed_not old new count fault.NoMemory some outcome failed = by_life outcome.2
   where
-    by_life : TakesNothing old new ⊎ ((new.life ≡ life.Failed) × (old.text.buffer.can.writable ≡ true) × FailedWithOwn (over_of old) (over_of new)) → HandOutcome old count flushes (Err fault.NoMemory) new
+    by_life : TakesNothing old new ⊎ ((new.life ≡ life.Failed) × (old.text.buffer.can.writable ≡ true) × FailedWithOwn (over_of old) (over_of new)) → GivesOutcome old count (Err fault.NoMemory) new
     by_life (inl nothing) = absurd (failed refl nothing.lives)
-    by_life (inr gave) = inl (outcome.0, gave.0, some, inl gave.2, outcome.1)
-handed_not old new count flushes other some outcome failed = absurd outcome
+    by_life (inr gave) = inl (record { hands = outcome.0; life_is = gave.0; some = some; gave = inl gave.2; takes = outcome.1 })
+handed_not old new count other some outcome failed = absurd outcome
 
 -- the buffer took nothing for want of memory, and the last bytes are let go of
 pub lets_go : (old mid new : WrittenView) (count room : ℕ) → SettleOutcome old (Err fault.NoMemory) mid → mid.life ≡ life.Live → new ≡ record mid { pending = take (length mid.pending - count) mid.pending; room = room } → LetsGo old count new
 lets_go old mid new count room outcome lives is = subst (λ (view : WrittenView). LetsGo old count view) (sym is) (by_life outcome.2)
   where
-    by_life : TakesNothing old mid ⊎ ((mid.life ≡ life.Failed) × (old.text.buffer.can.writable ≡ true) × FailedWithOwn (over_of old) (over_of mid)) → LetsGo old count (record mid { pending = take (length mid.pending - count) mid.pending; room = room })
+    left : WrittenView
+    left = record mid { pending = take (length mid.pending - count) mid.pending; room = room }
+
+    by_life : TakesNothing old mid ⊎ ((mid.life ≡ life.Failed) × (old.text.buffer.can.writable ≡ true) × FailedWithOwn (over_of old) (over_of mid)) → LetsGo old count left
     by_life (inr failed) = let never : life.Live ≡ life.Failed = sym lives ∙ failed.0 in absurd (cc)
-    by_life (inl nothing) = record {
-      calls = outcome.0.calls;
-      lives = lives;
-      stands = nothing.stands;
-      pending = ap (λ (owed : List ℕ). take (length owed - count) owed) nothing.pending;
-      place = nothing.place;
-      settings = outcome.0.settings;
-      flat = nothing.flat;
-      owes = nothing.owes;
-      lays = outcome.0.lays;
-      stays = outcome.0.stays;
-    }
+    by_life (inl nothing) =
+        let kept : left.pending ≡ kept_of old count = ap (λ (owed : List ℕ). take (length owed - count) owed) nothing.pending in
+        record {
+          calls = outcome.0.calls;
+          lives = lives;
+          settings = outcome.0.settings;
+          bytes = λ told.
+              ap (λ (bytes : List ℕ). lay bytes mid.text.buffer.place left.pending) (nothing.flat told)
+              ∙ (ap (λ (at : ℕ). lay (flat_of old.text.buffer).bytes at left.pending) nothing.place
+              ∙ ap (lay (flat_of old.text.buffer).bytes old.text.buffer.place) kept);
+          place = clean_place mid.text left.pending nothing.stands ∙ ap (λ (at : ℕ). clean_at at Unknown) (omega (arith, nothing.place, ap length kept));
+          owes = subst (λ (owed : List ℕ). PassesOwed old.text.buffer.raw (old.text.buffer.owed.bytes ++ kept_of old count) mid.text.buffer.raw (mid.text.buffer.owed.bytes ++ owed)) (sym kept) (passes_behind old.text.buffer.raw mid.text.buffer.raw old.text.buffer.owed.bytes mid.text.buffer.owed.bytes (kept_of old count) nothing.owes);
+          lays = outcome.0.lays;
+          stays = outcome.0.stays;
+        }
+
+pub handed_back : (old mid new : WrittenView) (count : ℕ) (why : IoFault) → why ≡ fault.NoMemory → SettleOutcome old (Err why) mid → mid.life ≡ life.Live → new ≡ record mid { pending = take (length mid.pending - count) mid.pending; room = new.room } → GivesOutcome old count (Err fault.NoMemory) new
+handed_back old mid new count why memory outcome lives is = inr (lets_go old mid new count new.room (subst (λ (own : IoFault). SettleOutcome old (Err own) mid) memory outcome) lives is)
+
+-- where no flush was to follow, the buffer was called for one write alone
+pub handed_once : (old new : WrittenView) (count : ℕ) (flushes : Bool) (result : Result (Unit {0}) IoFault) → GivesOutcome old count result new → HandsOnOnce old flushes result new
+handed_once old new count flushes (Ok done) took = λ is. inr (took.1, took.3)
+handed_once old new count flushes (Err why) took = tt
 
 pub both_true : (lines ends : Bool) → lines ≡ true → ends ≡ true → (lines && ends) ≡ true
 both_true true true first second = refl

@@ -31,7 +31,7 @@ use Rattle.py_read_text.proofs.Placing.{not_far}
 use Rattle.py_read_text.specs.Owing.{all_owed, behind_own, IsJoined, PassesOwed, OwesOn, own_from, HasOwn, has_line_end, flushes_behind, GaveOwn, StopsOwing, all_from, LaysFront, LaysOwed}
 use Rattle.py_read_text.proofs.Owing.{passes_then, passes_behind, owes_none, open_then, owing_open}
 use Rattle.py_read_text.specs.Answers.{further, StaysAhead, IsPassedOn, KeepsFew, HoldsBack, WritesAll, TextHolds, Answers}
-use Rattle.py_textio.specs.Written.{WrittenView, behind_owed, place_now, over_of, state_of, file_now, HandsOnBut, HandsOn, TookText, IsKept, StandsToWrite, GoesBack, BackOutcome, LetsGo, HandOutcome, KeepsOwed, HandsOnOnce, TookPending}
+use Rattle.py_textio.specs.Written.{WrittenView, behind_owed, place_now, over_of, state_of, file_now, HandsOnBut, HandsOn, TookText, IsKept, StandsToWrite, GoesBack, BackOutcome, kept_of, LetsGo, HandOutcome, KeepsOwed, HandsOnOnce, TookPending}
 use Rattle.py_textio.proofs.Ended.{ended-some}
 use Rattle.py_textio.proofs.Refusing.{refused}
 use Rattle.py_textio.proofs.Settling.{behind_so, clean_place, own_from_is, both_true, hands_itself}
@@ -223,7 +223,7 @@ wrote_failed old new text may took failed joined =
     whole_fails : (old new : WrittenView) (bytes : List ℕ) (current : Life) → new.life ≡ current → (file_now new).bytes ≡ lay (file_now old).bytes (place_now old).at bytes → new.text.buffer.can ≡ old.text.buffer.can → new.text.settings ≡ old.text.settings → Fails (file_now old) current (lay (file_now old).bytes (place_now old).at (take (length bytes) bytes)) (file_now new)
     whole_fails old new bytes current is laid can settings = record { life_is = is; bytes_are = laid ∙ ap (lay (file_now old).bytes (place_now old).at) (sym (take_all (length bytes) bytes (omega arith))); can = can; settings = settings }
 
-pub wrote_starved : (old new : WrittenView) (text : List ℕ) → MayWrite old text → TookText old (own_bytes old text) false false new → new.life ≡ life.Failed → HasOwn (over_of old) (WriteText text) → GaveOwn (flushes_behind old.text.settings (WriteText text)) (over_of old) (over_of new) → IsTrue old.text.buffer.raw.takes_memory → IsJoined (over_of new) → Answers (state_of old false) (WriteText text) (Refused fault.NoMemory) (state_of new false)
+pub wrote_starved : (old new : WrittenView) (text : List ℕ) → MayWrite old text → TookText old (own_bytes old text) false false new → new.life ≡ life.Failed → HasOwn (over_of old) (WriteText text) → GaveOwn (flushes_behind old.text.settings (WriteText text)) (length (own_bytes old text)) (over_of old) (over_of new) → IsTrue old.text.buffer.raw.takes_memory → IsJoined (over_of new) → Answers (state_of old false) (WriteText text) (Refused fault.NoMemory) (state_of new false)
 wrote_starved old new text may took failed has gave takes joined =
     let bytes : List ℕ = own_bytes old text in
     answers_work old (WriteText text) (Refused fault.NoMemory) new false (record {
@@ -444,33 +444,29 @@ take_first first second count is = ap (λ (size : ℕ). take size (first ++ seco
 
 let_go_so : (old mid new : WrittenView) (bytes : List ℕ) (room count : ℕ) → GoesBack old mid → count ≡ length bytes → LetsGo (with_bytes mid bytes room) count new → HandsOnBut bytes old false false new
 let_go_so old mid new bytes room count back counts lets =
-    let pending : new.pending ≡ mid.pending = lets.pending ∙ take_first mid.pending bytes count counts in
+    let kept : kept_of (with_bytes mid bytes room) count ≡ mid.pending = take_first mid.pending bytes count counts in
     record {
       calls = calls_on old.text.buffer mid.text.buffer new.text.buffer false false back.hands.calls lets.calls;
       bytes = λ told.
           let still = tells_still old.text.buffer.raw mid.text.buffer.raw back.hands.calls.keeps.raw ∙ told in
-          ap (λ (owed : List ℕ). lay (flat_of new.text.buffer).bytes new.text.buffer.place owed) pending
-          ∙ (ap (λ (all : List ℕ). lay all new.text.buffer.place mid.pending) (lets.flat still)
-          ∙ (ap (λ (at : ℕ). lay (flat_of mid.text.buffer).bytes at mid.pending) lets.place ∙ back.hands.bytes told));
-      place =
-          let at : new.text.buffer.place + length new.pending ≡ mid.text.buffer.place + length mid.pending = omega (arith, lets.place, ap length pending) in
-          clean_place new.text new.pending lets.stands ∙ (ap (λ (at : ℕ). clean_at at Unknown) at ∙ (sym (clean_place mid.text mid.pending back.stands) ∙ back.hands.place));
+          lets.bytes still ∙ (ap (lay (flat_of mid.text.buffer).bytes mid.text.buffer.place) kept ∙ back.hands.bytes told);
+      place = lets.place ∙ (ap (λ (owed : List ℕ). clean_at (mid.text.buffer.place + length owed) Unknown) kept ∙ (sym (clean_place mid.text mid.pending back.stands) ∙ back.hands.place));
       settings = lets.settings ∙ back.hands.settings;
       owes = passes_then old.text.buffer.raw mid.text.buffer.raw new.text.buffer.raw (all_owed (over_of old)) (all_owed (over_of mid)) (all_owed (over_of new)) back.hands.calls.keeps.raw back.hands.owes
-          (subst (λ (owed : List ℕ). PassesOwed mid.text.buffer.raw (all_owed (over_of mid)) new.text.buffer.raw (new.text.buffer.owed.bytes ++ owed)) (sym pending) (passes_behind mid.text.buffer.raw new.text.buffer.raw mid.text.buffer.owed.bytes new.text.buffer.owed.bytes mid.pending lets.owes));
+          (subst (λ (owed : List ℕ). PassesOwed mid.text.buffer.raw (mid.text.buffer.owed.bytes ++ owed) new.text.buffer.raw (all_owed (over_of new))) kept lets.owes);
       lays = put_lays old mid bytes room (over_of new) back lets.lays;
       stays = open_then old.text.buffer mid.text.buffer new.text.buffer back.hands.stays lets.stays;
     }
 
 -- bytes that went on of a text that went back and had more put behind what it owed
-gave_put : (old mid : WrittenView) (bytes : List ℕ) (room : ℕ) (flushes : Bool) (new : TextOver Buffer) → GoesBack old mid → GaveOwn flushes (over_of (with_bytes mid bytes room)) new → GaveOwn flushes (over_of old) new
-gave_put old mid bytes room flushes new back gave = by_gave gave
+gave_put : (old mid : WrittenView) (bytes : List ℕ) (room : ℕ) (flushes : Bool) (given : ℕ) (new : TextOver Buffer) → GoesBack old mid → GaveOwn flushes given (over_of (with_bytes mid bytes room)) new → GaveOwn flushes given (over_of old) new
+gave_put old mid bytes room flushes given new back gave = by_gave gave
   where
     from : own_from (over_of old) ≡ own_from (over_of (with_bytes mid bytes room))
     from = omega (arith, own_from_is (with_bytes mid bytes room), own_from_is mid, ap (λ (place : TextPlace). place.at) back.hands.place, ap length back.pending)
 
-    by_gave : GaveOwn flushes (over_of (with_bytes mid bytes room)) new → GaveOwn flushes (over_of old) new
-    by_gave (inr all) = inr (all.0, record { further = omega (arith, all.1.further, from); none = all.1.none })
+    by_gave : GaveOwn flushes given (over_of (with_bytes mid bytes room)) new → GaveOwn flushes given (over_of old) new
+    by_gave (inr took) = inr took
     by_gave (inl took) = inl (
       took.0,
       record {
@@ -485,8 +481,8 @@ written_on old mid new text room count (fault.WouldBlock taken) may back counts 
     wrote_blocked old new text taken may (put_then old mid new (own_bytes old text) room true false back outcome.0) outcome.1 joined (outcome.2 ∙ counts) outcome.3
 written_on old mid new text room count fault.RawFault may back counts outcome joined =
     wrote_failed old new text may (put_then old mid new (own_bytes old text) room false true back outcome.0) outcome.1 joined
-written_on old mid new text room count fault.NoMemory may back counts (inl outcome) joined =
-    wrote_starved old new text may (put_then old mid new (own_bytes old text) room false false back outcome.0) outcome.1 (λ none. outcome.2 (ap (λ (owed : List ℕ). owed ++ own_bytes old text) back.pending ∙ none)) (gave_put old mid (own_bytes old text) room (old.text.settings.line_buffering && has_line_end text) (over_of new) back outcome.3) (sym back.hands.calls.keeps.raw.takes_memory ∙ outcome.4) joined
+written_on old mid new text room count fault.NoMemory may back counts (inl failed) joined =
+    wrote_starved old new text may (put_then old mid new (own_bytes old text) room false false back failed.hands) failed.life_is (λ none. failed.some (ap (λ (owed : List ℕ). owed ++ own_bytes old text) back.pending ∙ none)) (subst (λ (given : ℕ). GaveOwn (old.text.settings.line_buffering && has_line_end text) given (over_of old) (over_of new)) counts (gave_put old mid (own_bytes old text) room (old.text.settings.line_buffering && has_line_end text) count (over_of new) back failed.gave)) (sym back.hands.calls.keeps.raw.takes_memory ∙ failed.takes) joined
 written_on old mid new text room count fault.NoMemory may back counts (inr lets) joined =
     unwritten_starved old new text may (let_go_so old mid new (own_bytes old text) room count back counts lets) lets.lives joined
 written_on old mid new text room count other may back counts outcome joined = absurd outcome
@@ -550,14 +546,13 @@ keeps_at put other new flushes flush result same is keeps = subst (λ (view : Wr
 pub once_at : (put other new : WrittenView) (flushes flush : Bool) (result : Result (Unit {0}) IoFault) → put ≡ other → flushes ≡ flush → HandsOnOnce put flushes result new → HandsOnOnce other flush result new
 once_at put other new flushes flush result same is once = subst (λ (view : WrittenView). HandsOnOnce view flush result new) same (subst (λ (own : Bool). HandsOnOnce put own result new) is once)
 
+some_long : (bytes : List ℕ) → bytes ≢ [] → 0 < length bytes
+some_long [] some = absurd (some refl)
+some_long (byte ∷ more) some = omega arith
+
 -- a text with a line end has bytes to hand on
-pub put_some : (old mid put : WrittenView) (text : List ℕ) → put ≡ with_bytes mid (own_bytes old text) put.room → written_refusal old.text.settings text ≡ None → has_line_end text ≡ true → put.pending ≢ []
-put_some old mid put text is whole ends none =
-    ended-some old.text.settings text whole ends (back_none mid.pending (own_bytes old text) (sym (ap (λ (view : WrittenView). view.pending) is) ∙ none))
-  where
-    back_none : (front back : List ℕ) → front ++ back ≡ [] → back ≡ []
-    back_none [] back is = is
-    back_none (byte ∷ more) back is = absurd (cc)
+pub put_some : (old : WrittenView) (text : List ℕ) (count : ℕ) → count ≡ length (own_bytes old text) → written_refusal old.text.settings text ≡ None → has_line_end text ≡ true → 0 < count
+put_some old text count counts whole ends = omega (arith, counts, some_long (own_bytes old text) (λ none. ended-some old.text.settings text whole ends none))
 
 -- the room for a text's bytes couldn't be had
 pub unput : (old mid new : WrittenView) (text : List ℕ) (why : IoFault) → MayWrite old text → GoesBack old mid → why ≡ fault.NoMemory → new ≡ record mid { room = new.room } → IsJoined (over_of mid) → Answers (state_of old false) (WriteText text) (Refused why) (state_of new (says_wait (Refused why)))

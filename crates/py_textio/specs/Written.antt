@@ -6,9 +6,10 @@ use Rattle.py_flat.specs.declared.life.Life.{Life}
 use Rattle.py_flat.specs.declared.life.Life.TheVariants as life
 use Rattle.py_flat.specs.Bytes.{lay}
 use Rattle.py_flat.specs.Limits.{greatest_place}
-use Rattle.py_flat.specs.Calls.{FileReply, Count, NotReady, Write, Refused}
+use Rattle.py_flat.specs.Calls.{FileReply, Count, NotReady, Write, Flush, Refused}
 use Rattle.py_flat.specs.Causes.{Rose}
-use Rattle.py_plain_text.specs.TextFile.{TextPlace, TextFile}
+use Rattle.py_plain.specs.Units.{Unknown}
+use Rattle.py_plain_text.specs.TextFile.{TextPlace, TextFile, clean_at}
 use Rattle.py_plain_text.specs.TextOver.{TextOver}
 use Rattle.py_plain_text.specs.declared.text_cookie.TextIOCookie.{TextIOCookie}
 use Rattle.py_plain_text.specs.Cookie.{cookie_bytes, is_buildable}
@@ -18,11 +19,12 @@ use Rattle.py_plain_text.specs.Telling.{told}
 use Rattle.py_plain_text.specs.TextWriting.{writes_texts}
 use Rattle.py_raw.specs.RawStream.{AnswersFor}
 use Rattle.py_stream.specs.Stream.{size_of}
-use Rattle.py_stream.specs.Writing.{IsFull}
-use Rattle.py_stream.specs.Buffer.{Buffer, WhereShown, flat_of, size_shown, stream_shown, AnswersAsBuffer, KeepsBuffer}
+use Rattle.py_stream.specs.Writing.{IsFull, OwesBehind}
+use Rattle.py_stream.specs.Buffer.{Buffer, WhereShown, flat_of, size_shown, stream_shown, AnswersAsBuffer, KeepsBuffer, taken_back}
 use Rattle.py_read_text.specs.TextState.{TextState, file_of}
 use Rattle.py_read_text.specs.Knowing.{TextView, place_of, over_of as read_of, IsClean}
-use Rattle.py_read_text.specs.Owing.{all_owed, behind_own, IsJoined, PassesOwed, LaysOwed, FailedWithOwn, GaveOwn, StopsOwing, KeepsOpen}
+use Rattle.py_read_text.specs.Writing.{LeavesFlat}
+use Rattle.py_read_text.specs.Owing.{all_owed, behind_own, IsJoined, PassesOwed, LaysOwed, FailedWithOwn, TookGiven, GaveOwn, StopsOwing, KeepsOpen}
 use Rattle.py_read_text.specs.Answers.{further, StandsWhileLive, IsPassedOn, KeepsFew, TellsWithin}
 
 -- the text that reads; the bytes that were written and that its buffer hasn't, with room for more; and its life
@@ -190,27 +192,73 @@ BackOutcome old (Err fault.RawFault) new = HandsOn old false true new × (new.li
 BackOutcome old (Err fault.NoMemory) new = HandsOn old false false new × (new.life ≡ life.Live)
 BackOutcome old (Err other) new = ⊥
 
--- the last n of the bytes that were owed are let go of: the buffer took nothing, for want of memory
+-- the raw was moved, if at all: all else of the text and its buffer is as it was
+pub record StaysReady (old new : WrittenView) : Type 0 where
+  pub hands : HandsOn old false false new
+  pub leaves : LeavesFlat old.text.buffer false new.text.buffer
+  pub place : new.text.buffer.place ≡ old.text.buffer.place
+  pub lives : new.life ≡ life.Live
+  pub pending : new.pending ≡ old.pending
+  pub stands : StandsToWrite old.text → StandsToWrite new.text
+
+-- the raw stands where what the buffer owes begins; or moving it failed, or memory ran out, and the text stays as it is
+abbrev pub ReadyOutcome : WrittenView → Result (Unit {0}) IoFault → WrittenView → Type 0
+ReadyOutcome old (Ok done) new = StaysReady old new × OwesBehind (stream_shown new.text.buffer)
+ReadyOutcome old (Err fault.RawFault) new = HandsOn old false true new × (new.life ≡ life.Failed)
+ReadyOutcome old (Err fault.NoMemory) new = StaysReady old new
+ReadyOutcome old (Err other) new = ⊥
+
+-- what a text owes without the last n bytes
+abbrev pub kept_of : WrittenView → ℕ → List ℕ
+kept_of view count = take (length view.pending - count) view.pending
+
+-- the last n of the bytes that a text owed are let go of, by it or by its buffer, for want of memory: the text goes on as though they had
+-- never been written
 pub record LetsGo (old : WrittenView) (count : ℕ) (new : WrittenView) : Type 0 where
   pub calls : CallsBuffer old.text.buffer false false new.text.buffer
   pub lives : new.life ≡ life.Live
-  pub stands : StandsToWrite new.text
-  pub pending : new.pending ≡ take (length old.pending - count) old.pending
-  pub place : new.text.buffer.place ≡ old.text.buffer.place
   pub settings : new.text.settings ≡ old.text.settings
-  pub flat : WhereShown old.text.buffer ((flat_of new.text.buffer).bytes ≡ (flat_of old.text.buffer).bytes)
-  pub owes : PassesOwed old.text.buffer.raw old.text.buffer.owed.bytes new.text.buffer.raw new.text.buffer.owed.bytes
+  pub bytes : WhereShown old.text.buffer ((file_now new).bytes ≡ lay (flat_of old.text.buffer).bytes old.text.buffer.place (kept_of old count))
+  pub place : place_now new ≡ clean_at (old.text.buffer.place + length (kept_of old count)) Unknown
+  pub owes : PassesOwed old.text.buffer.raw (old.text.buffer.owed.bytes ++ kept_of old count) new.text.buffer.raw (all_owed (over_of new))
   pub lays : LaysOwed (over_of old) (all_owed (over_of old) ++ []) (over_of new)
   pub stays : KeepsOpen old.text.buffer new.text.buffer
 
--- the buffer passed on all, where it was to; or the raw would have blocked, which counts all n bytes as taken; or it failed, or memory ran
--- out, which fails the text, that owes nothing itself then
-abbrev pub PassOutcome : WrittenView → (count : ℕ) → (flushes : Bool) → Result (Unit {0}) IoFault → WrittenView → Type 0
-PassOutcome old count flushes (Ok done) new = HandsOn old false false new × (new.life ≡ life.Live) × KeepsFew (state_of new false) × (flushes ≡ true → IsPassedOn (state_of new false))
-PassOutcome old count flushes (Err (fault.WouldBlock taken)) new = HandsOn old true false new × (new.life ≡ life.Live) × (taken ≡ count) × StopsOwing false (over_of new)
-PassOutcome old count flushes (Err fault.RawFault) new = HandsOn old false true new × (new.life ≡ life.Failed)
-PassOutcome old count flushes (Err fault.NoMemory) new = HandsOn old false false new × (new.life ≡ life.Failed) × (flushes ≡ true) × (new.pending ≡ []) × IsTrue old.text.buffer.raw.takes_memory
-PassOutcome old count flushes (Err other) new = ⊥
+-- memory ran out as the buffer passed on, and the buffer took back the last n of the bytes that it still owed
+pub record GivesBack (old : WrittenView) (count : ℕ) (new : WrittenView) : Type 0 where
+  pub left : Buffer
+  pub flushed : AnswersAsBuffer old.text.buffer Flush (Refused fault.NoMemory) left
+  pub fits : count ≤ length left.owed.bytes
+  pub back : new.text.buffer ≡ taken_back count left
+  pub stands : StandsToWrite new.text
+  pub settings : new.text.settings ≡ old.text.settings
+  pub pending : new.pending ≡ []
+  pub lives : new.life ≡ life.Live
+
+-- memory ran out as the buffer passed on, over a raw that takes some, once the raw took some of the last n bytes that were owed
+pub record FailsBehind (old : WrittenView) (count : ℕ) (new : WrittenView) : Type 0 where
+  pub hands : HandsOn old false false new
+  pub life_is : new.life ≡ life.Failed
+  pub took : TookGiven count (over_of new)
+  pub takes : IsTrue old.text.buffer.raw.takes_memory
+
+-- the buffer passed on all; or the raw would have blocked, which counts all n bytes as taken; or it failed; or memory ran out, and the
+-- buffer took back the n bytes, or the text failed, as the raw took some of them
+abbrev pub PassOutcome : WrittenView → (count : ℕ) → Result (Unit {0}) IoFault → WrittenView → Type 0
+PassOutcome old count (Ok done) new = HandsOn old false false new × (new.life ≡ life.Live) × KeepsFew (state_of new false) × IsPassedOn (state_of new false)
+PassOutcome old count (Err (fault.WouldBlock taken)) new = HandsOn old true false new × (new.life ≡ life.Live) × (taken ≡ count) × StopsOwing false (over_of new)
+PassOutcome old count (Err fault.RawFault) new = HandsOn old false true new × (new.life ≡ life.Failed)
+PassOutcome old count (Err fault.NoMemory) new = GivesBack old count new ⊎ FailsBehind old count new
+PassOutcome old count (Err other) new = ⊥
+
+-- running out of memory failed a text that owed bytes, over a raw that takes memory: its buffer failed once the raw took some of them, or,
+-- where it was to be flushed, the raw took some of the last n
+pub record FailsHanding (old : WrittenView) (count : ℕ) (flushes : Bool) (new : WrittenView) : Type 0 where
+  pub hands : HandsOn old false false new
+  pub life_is : new.life ≡ life.Failed
+  pub some : old.pending ≢ []
+  pub gave : GaveOwn flushes count (over_of old) (over_of new)
+  pub takes : IsTrue old.text.buffer.raw.takes_memory
 
 -- what is owed is handed on where it has to be, and passed on by the buffer where it is to; where memory ran out the text failed, or the n
 -- bytes are let go of
@@ -218,8 +266,13 @@ abbrev pub HandOutcome : WrittenView → (count : ℕ) → (flushes : Bool) → 
 HandOutcome old count flushes (Ok done) new = HandsOn old false false new × (new.life ≡ life.Live) × KeepsFew (state_of new false) × (flushes ≡ true → IsPassedOn (state_of new false))
 HandOutcome old count flushes (Err (fault.WouldBlock taken)) new = HandsOn old true false new × (new.life ≡ life.Live) × (taken ≡ count) × StopsOwing false (over_of new)
 HandOutcome old count flushes (Err fault.RawFault) new = HandsOn old false true new × (new.life ≡ life.Failed)
-HandOutcome old count flushes (Err fault.NoMemory) new = (HandsOn old false false new × (new.life ≡ life.Failed) × (old.pending ≢ []) × GaveOwn flushes (over_of old) (over_of new) × IsTrue old.text.buffer.raw.takes_memory) ⊎ LetsGo old count new
+HandOutcome old count flushes (Err fault.NoMemory) new = FailsHanding old count flushes new ⊎ LetsGo old count new
 HandOutcome old count flushes (Err other) new = ⊥
+
+-- the buffer took all that is owed; or the n bytes are let go of, or the text isn't as it was
+abbrev pub GivesOutcome : WrittenView → (count : ℕ) → Result (Unit {0}) IoFault → WrittenView → Type 0
+GivesOutcome old count (Ok done) new = SettleOutcome old (Ok done) new
+GivesOutcome old count (Err why) new = HandOutcome old count false (Err why) new
 
 -- nothing is handed on that needn't be: without write through, of less than a chunk, and where no flush is to follow all is as it was
 abbrev pub KeepsOwed : WrittenView → (flushes : Bool) → Result (Unit {0}) IoFault → WrittenView → Type 0

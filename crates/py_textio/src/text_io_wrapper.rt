@@ -34,8 +34,8 @@ use std::marker::Model;
 /// it (but a `detach`), `Closed` after a `close` (which may be called again), `Detached` after a `detach`; then it is `Unsupported` where the
 /// buffer lacks what the call needs. Else, where the raw failed in the call, it is `RawFault`: the text is failed from then on; after `close`
 /// it is closed. `NoMemory` means out of memory: place and life stay, and the call may be made again; but a `seek` by a cookie that skips may
-/// leave the text, clean, at the cookie's start, and a text that is written is failed once the raw had some of its own bytes, by a `write`
-/// with line buffering also once its buffer took all of them. A getter is never refused.
+/// leave the text, clean, at the cookie's start, and a text that is written is failed where its buffer failed once the raw had some of the
+/// bytes that the text had kept, or, by a `write` with line buffering, once the raw had some of that write's. A getter is never refused.
 #[derive(Debug, Drop)]
 pub struct TextIOWrapper<B: BufferedStream> {
     attached: Option<AttachedText<B>>,
@@ -161,8 +161,9 @@ impl<B: BufferedStream> TextIOWrapper<B> {
     /// argument, where the handler refuses a run of characters; `TooFar` where the bytes would end past 9223372036854775807: with all as it
     /// was, and no memory taken. `WouldBlock` says how many bytes the text is written as: all are taken, and later calls pass them on.
     /// `RawFault`: the text is failed; all of the argument is taken, and what the buffer hasn't comes by `detach`, or none, where the raw
-    /// failed as a buffer that was read ahead went back. `NoMemory` leaves all as it was, but once the raw had some of the text's own bytes, or,
-    /// with line buffering, the buffer took all of them: then the text is failed, too.
+    /// failed as a buffer that was read ahead went back. `NoMemory`: nothing of the argument is
+    /// written; but where the buffer failed once the raw had some of the bytes that the text had kept or was given, or, with line buffering,
+    /// once the raw had some of those that it was given, the text is failed, too, with all of the argument taken.
     pub fn write(&mut self, alloc: Global, text: &str) -> Result<usize, IoFault>
         ensures { Answers self.old (WriteText (chars text.now)) (count_reply result) self.new }
     {
@@ -194,8 +195,8 @@ impl<B: BufferedStream> TextIOWrapper<B> {
     /// `Unsupported` where the buffer can't be moved or appends, or by another cookie for whence 1 or 2; `BadWhence`; `InvalidCookie` for more
     /// than 25 bytes, a negative field or an order: with all as it was. `CannotRestore` where a cookie that skips doesn't fit the bytes at its
     /// start: the text stands there, clean. `WouldBlock`: the text stands where it stood, or, where the bytes fed were being read, clean at the
-    /// cookie's start; so too after `NoMemory`, there only over a raw that takes memory; once the raw had some of the text's own bytes
-    /// that fails the text.
+    /// cookie's start; so too after `NoMemory`, there only over a raw that takes memory; where the buffer failed
+    /// once the raw had some of the text's own bytes, the text is failed.
     pub fn seek(
         &mut self,
         alloc: Global,
@@ -214,7 +215,7 @@ impl<B: BufferedStream> TextIOWrapper<B> {
     /// Passes on all that was written: the raw has it then.
     ///
     /// `WouldBlock`: the raw would have blocked before all was passed on; what is left is owed still. `NoMemory` comes only of a raw that
-    /// takes memory; the text stays live, or is failed once the raw had some of its own bytes.
+    /// takes memory; the text stays live, or fails with its buffer, once the raw had some of its own bytes.
     pub fn flush(&mut self) -> Result<(), IoFault>
         ensures { Answers self.old Flush (done_reply result) self.new }
     {
@@ -228,7 +229,7 @@ impl<B: BufferedStream> TextIOWrapper<B> {
     /// again, which calls no raw.
     ///
     /// `WouldBlock`: the raw would have blocked before all was passed on, and the text stays live. `NoMemory` comes only of a raw that
-    /// takes memory; the text stays live, or is failed once the raw had some of its own bytes.
+    /// takes memory; the text stays live, or fails with its buffer, once the raw had some of its own bytes.
     pub fn close(&mut self) -> Result<(), IoFault>
         ensures { Answers self.old Close (done_reply result) self.new }
     {
@@ -244,8 +245,8 @@ impl<B: BufferedStream> TextIOWrapper<B> {
     /// and its settings, and every other call is `Detached`.
     ///
     /// `WouldBlock`: the raw would have blocked before all was passed on, and the text stays live. `RawFault`: the text is failed, and may be
-    /// detached as such. `NoMemory` comes only of a raw that takes memory; the text stays live, or is failed once the
-    /// raw had some of its own bytes. `Closed` of a closed text, `Detached` of a detached one: with all as it was.
+    /// detached as such. `NoMemory` comes only of a raw that takes memory; the text stays live, or fails with its
+    /// buffer, once the raw had some of its own bytes. `Closed` of a closed text, `Detached` of a detached one: with all as it was.
     pub fn detach(&mut self) -> Result<TextDetached<B>, IoFault>
         ensures outcome { DetachOutcome B.shows self.old result self.new }
         ensures room { IfOk result (λ parts. HasRoomBehind B.shows parts) }

@@ -11,12 +11,14 @@ ghost use Rattle.py_plain_text.specs.TextWriting.{writes_texts, written_bytes, w
 ghost use Rattle.py_flat.specs.Calls.{Refused};
 ghost use Rattle.py_stream.specs.Kinds.{says_wait};
 ghost use Rattle.py_stream.specs.Replies.{count_reply, done_reply};
+ghost use Rattle.py_stream.specs.Writing.{OwesBehind};
+ghost use Rattle.py_stream.specs.Buffer.{stream_shown};
 ghost use Rattle.py_read_text.specs.Reading.{call_of, asks_none, reply_of, waited_in};
 ghost use Rattle.py_read_text.specs.Owing.{IsJoined, has_line_end};
 ghost use Rattle.py_read_text.specs.Knowing.{over_of as read_of};
 ghost use Rattle.py_read_text.specs.Answers.{refused_here, Answers, cookie_reply};
 ghost use Rattle.py_textio.specs.Seeking.{CanMove, EndOutcome, CanSeekBy, AnswersSeeks};
-ghost use Rattle.py_textio.specs.Written.{over_of, state_of, file_now, place_now, HasRoom, StandsToWrite, SettleOutcome, stopped_reply, with_taken, RoomFor, IsKept, TellsPlace, BackOutcome, PassOutcome, HandOutcome, KeepsOwed, HandsOnOnce};
+ghost use Rattle.py_textio.specs.Written.{over_of, state_of, file_now, place_now, HasRoom, StandsToWrite, SettleOutcome, stopped_reply, with_taken, RoomFor, IsKept, TellsPlace, BackOutcome, ReadyOutcome, GivesOutcome, PassOutcome, HandOutcome, KeepsOwed, HandsOnOnce};
 
 use py_flat::{IoFault, Life};
 use py_held_text::{Coder, Wanted, drop_front};
@@ -500,12 +502,12 @@ impl<B: BufferedStream> WrittenText<B> {
     }
 
     /// How many bytes more there can be behind the text's place.
-    fn room(&self) -> u128
+    fn room(&self) -> u64
         ensures { (place_now self.now).at + result ≡ greatest_place }
     {
         // What holds of every text is known from here on.
         let _ = &self.life;
-        u128::from(GREATEST_PLACE) - (self.text.at() as u128 + self.pending.len() as u128)
+        GREATEST_PLACE - (self.text.at() + self.pending.len() as u64)
     }
 
     /// How many bytes there are, where they end no further than a stream can.
@@ -514,8 +516,7 @@ impl<B: BufferedStream> WrittenText<B> {
     {
         // What holds of every text is known from here on.
         let _ = &self.life;
-        let end = (self.text.at() as u128 + self.pending.len() as u128).checked_add(bytes)?;
-        if end <= u128::from(GREATEST_PLACE) {
+        if bytes <= u128::from(self.room()) {
             Some(bytes as usize)
         } else {
             None
@@ -543,6 +544,7 @@ impl<B: BufferedStream> WrittenText<B> {
 
     /// Puts the bytes of a text, which has at most so many, behind those that are owed, and answers how many it has. There is room then for
     /// as many more as the buffer holds.
+    #[inline(always)]
     fn put(&mut self, alloc: Global, text: &str, most: usize) -> Result<usize, IoFault>
         requires live { self.old.life ≡ Life.Live }
         requires stands { StandsToWrite self.old.text }
@@ -560,15 +562,11 @@ impl<B: BufferedStream> WrittenText<B> {
         let Some(room) = most.checked_add(self.text.buffer().buffer_size()) else {
             return Err(IoFault::NoMemory);
         };
+        let coder = self.text.coder();
+        let newline = self.text.settings().newline;
         let owed = self.pending.len();
         self.pending.reserve(room)?;
-        push_written_text(
-            alloc,
-            self.text.coder(),
-            self.text.settings().newline,
-            text,
-            &mut self.pending,
-        )?;
+        push_written_text(alloc, coder, newline, text, &mut self.pending)?;
         Ok(self.pending.len() - owed)
     }
 
@@ -598,23 +596,41 @@ impl<B: BufferedStream> WrittenText<B> {
         requires stands { StandsToWrite self.old.text }
         requires writes { self.old.text.buffer.can.writable ≡ true }
         requires count { count ≤ length self.old.pending }
-        requires some { flushes ≡ true → self.old.pending ≢ [] }
+        requires some { flushes ≡ true → 0 < count }
         ensures outcome { HandOutcome self.old count flushes result self.new }
         ensures keeps { KeepsOwed self.old flushes result self.new }
         ensures once { HandsOnOnce self.old flushes result self.new }
         ensures joined { IsJoined (over_of self.new) }
     {
         // What holds of every text is known from here on.
-        let _ = self.life();
+        let _ = &self.life;
         let settings = self.text.settings();
-        if !flushes && !settings.write_through && self.pending.len() < settings.chunk_size {
+        if flushes {
+            return self.prepare_and_pass(count);
+        }
+        if !settings.write_through && self.pending.len() < settings.chunk_size {
             return Ok(());
         }
         if self.pending.is_empty() {
-            return self.pass_on(count, flushes);
+            return Ok(());
         }
+        self.settle_or_let_go(count)
+    }
+
+    /// Hands the buffer what is owed. Where it takes nothing for want of memory, the last n bytes are let go of: those of the text that is
+    /// being written.
+    fn settle_or_let_go(&mut self, count: usize) -> Result<(), IoFault>
+        requires live { self.old.life ≡ Life.Live }
+        requires owes { self.old.pending ≢ [] }
+        requires count { count ≤ length self.old.pending }
+        ensures outcome { GivesOutcome self.old count result self.new }
+        ensures joined { IsJoined (over_of self.new) }
+        ensures there { self.new.text.at ≡ self.new.text.buffer.place }
+    {
+        // What holds of every text is known from here on.
+        let _ = self.life();
         match self.settle() {
-            Ok(()) => self.pass_on(count, flushes),
+            Ok(()) => Ok(()),
             Err(fault) => {
                 if matches!(fault, IoFault::NoMemory) && matches!(self.life, Life::Live) {
                     self.let_go(count);
@@ -625,25 +641,94 @@ impl<B: BufferedStream> WrittenText<B> {
         }
     }
 
-    /// Sees to it that the buffer passes on all, where it is to, of a text that owes nothing itself.
-    fn pass_on(&mut self, count: usize, flushes: bool) -> Result<(), IoFault>
+    /// Sees to it that the raw stands where what the buffer owes begins, so that a flush writes at once. The text stays as it is.
+    fn prepare(&mut self) -> Result<(), IoFault>
         requires live { self.old.life ≡ Life.Live }
-        requires none { self.old.pending ≡ [] }
         requires writes { self.old.text.buffer.can.writable ≡ true }
-        ensures outcome { PassOutcome self.old count flushes result self.new }
-        ensures still { flushes ≡ false → self.new ≡ self.old }
+        ensures outcome { ReadyOutcome self.old result self.new }
+        ensures joined { IsJoined (over_of self.new) }
+    {
+        // What holds of every text is known from here on.
+        let _ = &self.life;
+        match self.text.prepare_flush() {
+            Ok(()) => Ok(()),
+            Err(fault) => {
+                self.life = self.text.life();
+                Err(fault)
+            }
+        }
+    }
+
+    /// Hands the buffer what is owed, and sees to it that it passes on all. For want of memory the last n bytes, those of the text that is
+    /// being written, are let go of, unless the raw has some of them.
+    fn prepare_and_pass(&mut self, count: usize) -> Result<(), IoFault>
+        requires live { self.old.life ≡ Life.Live }
+        requires stands { StandsToWrite self.old.text }
+        requires writes { self.old.text.buffer.can.writable ≡ true }
+        requires count { count ≤ length self.old.pending }
+        requires some { 0 < count }
+        ensures outcome { HandOutcome self.old count true result self.new }
         ensures joined { IsJoined (over_of self.new) }
     {
         // What holds of every text is known from here on.
         let _ = self.life();
-        if !flushes {
-            return Ok(());
+        match self.prepare() {
+            Ok(()) => self.settle_and_pass(count),
+            Err(fault) => {
+                if matches!(fault, IoFault::NoMemory) {
+                    self.let_go(count);
+                    return Err(IoFault::NoMemory);
+                }
+                Err(fault)
+            }
         }
+    }
+
+    /// Hands the buffer, whose raw stands where what it owes begins, what is owed, and sees to it that it passes on all.
+    fn settle_and_pass(&mut self, count: usize) -> Result<(), IoFault>
+        requires live { self.old.life ≡ Life.Live }
+        requires stands { StandsToWrite self.old.text }
+        requires writes { self.old.text.buffer.can.writable ≡ true }
+        requires behind { OwesBehind (stream_shown self.old.text.buffer) }
+        requires count { count ≤ length self.old.pending }
+        requires some { 0 < count }
+        ensures outcome { HandOutcome self.old count true result self.new }
+        ensures joined { IsJoined (over_of self.new) }
+    {
+        // What holds of every text is known from here on.
+        let _ = &self.life;
+        match self.settle_or_let_go(count) {
+            Ok(()) => self.pass_on(count),
+            Err(fault) => Err(fault),
+        }
+    }
+
+    /// Sees to it that the buffer passes on all, of a text that owes nothing itself. For want of memory the buffer takes back the last n
+    /// bytes, those of the text that is being written; where the raw has some of them, the text fails.
+    fn pass_on(&mut self, count: usize) -> Result<(), IoFault>
+        requires live { self.old.life ≡ Life.Live }
+        requires none { self.old.pending ≡ [] }
+        requires stands { StandsToWrite self.old.text }
+        requires writes { self.old.text.buffer.can.writable ≡ true }
+        requires behind { self.old.text.buffer.owed.bytes ≢ [] → OwesBehind (stream_shown self.old.text.buffer) }
+        requires some { 0 < count }
+        ensures outcome { PassOutcome self.old count result self.new }
+        ensures joined { IsJoined (over_of self.new) }
+    {
+        // What holds of every text is known from here on.
+        let _ = &self.life;
         match self.text.flush() {
             Ok(()) => Ok(()),
             Err(fault) => {
                 if is_wait(fault) {
                     return Err(with_taken(fault, count as u64));
+                }
+                if is_raw_fault(fault) {
+                    self.life = Life::Failed;
+                    return Err(IoFault::RawFault);
+                }
+                if self.text.take_back(count) {
+                    return Err(IoFault::NoMemory);
                 }
                 self.life = Life::Failed;
                 Err(fault)
@@ -654,16 +739,18 @@ impl<B: BufferedStream> WrittenText<B> {
     /// Whether it is seen at once that a text of at most so many bytes is only kept, behind others that are owed: all come to less than a
     /// chunk then, and nothing is passed on at once.
     fn is_kept(&self, most: usize) -> bool
+        requires few { most ≤ 8192 }
         ensures { result ≡ true → IsKept self.now most }
     {
         // What holds of every text is known from here on.
         let _ = &self.life;
         let settings = self.text.settings();
+        let end = self.pending.len() + most;
         !self.pending.is_empty()
             && !settings.line_buffering
             && !settings.write_through
-            && most < settings.chunk_size.saturating_sub(self.pending.len())
-            && most as u128 <= self.room()
+            && end < settings.chunk_size
+            && self.text.at() + end as u64 <= GREATEST_PLACE
     }
 
     /// At most how many bytes a text is written as, where it is seen at once that it is only kept.
@@ -716,6 +803,7 @@ impl<B: BufferedStream> WrittenText<B> {
     }
 
     /// Writes a text, once it is known what it comes to.
+    #[inline(never)]
     fn measure_and_write(&mut self, alloc: Global, text: &str) -> Result<usize, IoFault>
         requires live { self.old.life ≡ Life.Live }
         requires writes { self.old.text.buffer.can.writable ≡ true }
@@ -725,7 +813,12 @@ impl<B: BufferedStream> WrittenText<B> {
         // What holds of every text is known from here on.
         let _ = self.life();
         let coder = self.text.coder();
-        match written_size(coder, self.text.settings().newline, text, self.room()) {
+        match written_size(
+            coder,
+            self.text.settings().newline,
+            text,
+            u128::from(self.room()),
+        ) {
             Ok(size) => self.write_sized(alloc, text, size),
             Err(fault) => Err(fault),
         }

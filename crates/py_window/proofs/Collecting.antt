@@ -3,7 +3,7 @@ use Rattle.std.proofs.Common.{◌≡◌, ℕ, ◌+◌, ◌-◌, ◌<◌, ◌≤�
 use Rattle.std.proofs.Math.ListN.{drop_of_length-le}
 use Rattle.std.proofs.lemmas.Bool.Decides.{eqb_tells}
 use Rattle.std.proofs.lemmas.Bool.{cases_lt, eq-eqb}
-use Rattle.std.proofs.lemmas.List.{length-drop, length-append, length-take-le, take_all, drop-append-le, drop-drop, append-nil}
+use Rattle.std.proofs.lemmas.List.{length-drop, length-append, length-take-le, take_all, take-take, drop-append-le, drop-drop, append-nil}
 use Rattle.py_window.specs.Window.{WindowView, IsWindow, Collects, place_of, pending_of, is_settled, kept_before, room_of, pasted, laid_at_cursor, without_front, pushed, passed_on, emptied_at, cut_within, cut_at}
 use Rattle.py_window.proofs.Held.{from_start}
 use Rattle.py_window.proofs.Overlaying.{pushed_within, pushed_beyond}
@@ -114,39 +114,42 @@ passed_shows window count size place owed fits shows =
           ∙ ap (drop count) (sym (pending_held window shows.collects) ∙ shows.bytes_are)));
     }
 
--- what is owed was cut back to a place among it
-cut_some : (window : WindowView) (end size place : ℕ) (owed : List ℕ) → place ≤ end → end ≤ place_of window → Shows window size place owed → Shows (cut_within end window) size place (take (end - place) owed)
-cut_some window end size place owed behind within shows =
+-- what is owed up to the cursor was cut back to a place among it; all is let go of that was held behind
+cut_some : (window : WindowView) (end : ℕ) → IsWindow window → window.to ≡ window.cursor → window.begin + window.from ≤ end → end ≤ place_of window → Shows (cut_within end window) window.size (window.begin + window.from) (take (end - (window.begin + window.from)) (pending_of window))
+cut_some window end is to behind within =
     let count : ℕ = end - window.begin in
-    let long : length (take count window.held) ≡ count = length-take-le count window.held (omega (arith, within, shows.is.cursor)) in
+    let many : ℕ = end - (window.begin + window.from) in
+    let long : length (take count window.held) ≡ count = length-take-le count window.held (omega (arith, within, is.cursor)) in
     let put : WindowView = cut_within end window in
     let collects_put : Collects put = record { to = refl; end = sym long } in
     record {
-      is = grind (arith, long, within, shows.is.cursor, shows.is.held, shows.is.far, shows.place_is, behind);
+      is = grind (arith, long, within, is.cursor, is.held, is.far, behind);
       collects = collects_put;
-      size_is = shows.size_is;
-      place_is = shows.place_is;
+      size_is = refl;
+      place_is = refl;
       bytes_are = pending_held put collects_put
-          ∙ (from_start window.held window.from count (omega (arith, shows.place_is, behind))
-          ∙ (ap (λ (n : ℕ). take n (drop window.from window.held)) (let n : count - window.from ≡ end - place = omega (arith, shows.place_is, behind) in n)
-          ∙ ap (take (end - place)) (sym (pending_held window shows.collects) ∙ shows.bytes_are)));
+          ∙ (from_start window.held window.from count (omega (arith, behind))
+          ∙ (ap (λ (n : ℕ). take n (drop window.from window.held)) (let n : count - window.from ≡ many = omega (arith, behind) in n)
+          ∙ sym (take-take many (window.to - window.from) (drop window.from window.held) (omega (arith, within, to)))));
     }
 
 -- or to where it begins
-cut_none : (window : WindowView) (end size place : ℕ) (owed : List ℕ) → end ≡ place → end ≤ place_of window → Shows window size place owed → Shows (emptied_at end window) size place (take (end - place) owed)
-cut_none window end size place owed same within shows = record {
-  is = record { some = shows.is.some; cursor = omega arith; held = omega arith; far = omega (arith, within, shows.is.cursor, shows.is.far); ordered = omega arith; within = omega arith; rests = λ _. refl };
+cut_none : (window : WindowView) (end : ℕ) → IsWindow window → end ≡ window.begin + window.from → Shows (emptied_at end window) window.size (window.begin + window.from) (take (end - (window.begin + window.from)) (pending_of window))
+cut_none window end is same = record {
+  is = record { some = is.some; cursor = omega arith; held = omega arith; far = omega (arith, same, is.ordered, is.within, is.far); ordered = omega arith; within = omega arith; rests = λ _. refl };
   collects = record { to = refl; end = refl };
-  size_is = shows.size_is;
+  size_is = refl;
   place_is = omega (arith, same);
-  bytes_are = ap (λ (n : ℕ). take n owed) (let none : 0 ≡ end - place = omega (arith, same) in none);
+  bytes_are = ap (λ (n : ℕ). take n (pending_of window)) (let none : 0 ≡ end - (window.begin + window.from) = omega (arith, same) in none);
 }
 
--- what is owed was cut back to a place
-pub cut_shows : (window : WindowView) (end size place : ℕ) (owed : List ℕ) → place ≤ end → end ≤ place_of window → Shows window size place owed → Shows (cut_at end window) size place (take (end - place) owed)
-cut_shows window end size place owed behind within shows = ⊎_elim
-    (λ (beyond : place < end). subst (λ (same : Bool). Shows (if same then emptied_at end window else cut_within end window) size place (take (end - place) owed)) (sym (ne_eqb end (window.begin + window.from) (λ same. absurd (omega (arith, beyond, same, shows.place_is)))))
-    (cut_some window end size place owed behind within shows))
-    (λ (there : end ≤ place). subst (λ (same : Bool). Shows (if same then emptied_at end window else cut_within end window) size place (take (end - place) owed)) (sym (eq-eqb end (window.begin + window.from) (omega (arith, there, behind, shows.place_is))))
-    (cut_none window end size place owed (omega (arith, there, behind)) within shows))
+-- what is owed up to the cursor was cut back to a place
+pub cut_shows : (window : WindowView) (end : ℕ) → IsWindow window → window.to ≡ window.cursor → window.begin + window.from ≤ end → end ≤ place_of window → Shows (cut_at end window) window.size (window.begin + window.from) (take (end - (window.begin + window.from)) (pending_of window))
+cut_shows window end is to behind within =
+    let place : ℕ = window.begin + window.from in
+    ⊎_elim
+    (λ (beyond : place < end). subst (λ (same : Bool). Shows (if same then emptied_at end window else cut_within end window) window.size place (take (end - place) (pending_of window))) (sym (ne_eqb end place (λ same. absurd (omega (arith, beyond, same)))))
+    (cut_some window end is to behind within))
+    (λ (there : end ≤ place). subst (λ (same : Bool). Shows (if same then emptied_at end window else cut_within end window) window.size place (take (end - place) (pending_of window))) (sym (eq-eqb end place (omega (arith, there, behind))))
+    (cut_none window end is (omega (arith, there, behind))))
     (cases_lt place end)

@@ -1,12 +1,13 @@
 //! Passing on what the raw is owed.
-ghost use Rattle.std.specs.Prelude.{◌≡◌, ◌≢◌, ◌<◌, ◌≤◌, true, false, [], length, IfOk};
+ghost use Rattle.std.specs.Prelude.{ℕ, ◌≡◌, ◌≢◌, ◌<◌, ◌≤◌, true, false, [], length, IfOk};
 ghost use Rattle.py_flat.specs.Limits.{greatest_place};
 ghost use Rattle.py_flat.specs.Calls.{Flush};
 ghost use Rattle.py_raw.specs.RawStream.{WhereTransfers};
 ghost use Rattle.py_stream.specs.Access.{is_written};
 ghost use Rattle.py_stream.specs.Moving.{MoveRawOutcome};
 ghost use Rattle.py_stream.specs.Settling.{SettleOutcome};
-ghost use Rattle.py_stream.specs.Answers.{Answers};
+ghost use Rattle.py_stream.specs.Answers.{Answers, KeepsStream};
+ghost use Rattle.py_stream.specs.Buffer.{buffer_of, Prepares};
 ghost use Rattle.py_stream.specs.Replies.{done_reply};
 ghost use Rattle.py_window.specs.Window.{pending_of, place_of, end_of};
 ghost use Rattle.py_engine.specs.Engine.{stream_of, IsBehind};
@@ -34,6 +35,20 @@ impl<R: RawStream> BufferedData<R> {
         let _ = &self.live;
         self.begin()?;
         self.pass_all()
+    }
+
+    /// Sees to it that the raw stands where a flush begins to write. The raw of a stream that isn't written stays where it is.
+    pub fn prepare_flush(&mut self) -> Result<(), IoFault>
+        ensures prepares { (taken : ℕ) → Prepares (buffer_of (stream_of self.old) taken) result (buffer_of (stream_of self.new) taken) }
+        ensures keeps { KeepsStream (stream_of self.old) (stream_of self.new) }
+    {
+        let _ = &self.live;
+        self.begin()?;
+        if !self.live.writes() {
+            return Ok(());
+        }
+        let place = self.window.pending_place();
+        self.move_raw(place)
     }
 
     /// Passes on some of what is owed, by one transfer of a raw that stands where that begins.

@@ -3,7 +3,7 @@ ghost use Rattle.std.specs.Prelude.{◌≡◌, length};
 ghost use Rattle.py_flat.specs.Refusals.{life_fault};
 ghost use Rattle.py_flat.specs.Calls.{Read1, Write, Seek, Tell, Flush, Close};
 ghost use Rattle.py_stream.specs.Replies.{bytes_reply, count_reply, place_reply, done_reply};
-ghost use Rattle.py_stream.specs.Buffer.{TellsPlace, AnswersEnd, AnswersAsBuffer};
+ghost use Rattle.py_stream.specs.Buffer.{TellsPlace, AnswersEnd, AnswersAsBuffer, Prepares, TakesBack};
 ghost use Rattle.py_memio.specs.InMemory.{AnswersInMemory};
 ghost use Rattle.py_memio.specs.BytesIO.{as_buffer, is_lent, TellsEnd};
 
@@ -81,6 +81,20 @@ impl BufferedStream for BytesIO {
         let done = BytesIO::flush(self);
         let _ = &self.bytes;
         done
+    }
+
+    fn prepare_flush(&mut self) -> Result<(), IoFault>
+        ensures prepares { Prepares (as_buffer self.old) result (as_buffer self.new) }
+        ensures same { self.new ≡ self.old }
+    {
+        self.check_open()
+    }
+
+    fn take_back(&mut self, count: usize) -> bool
+        ensures takes { TakesBack (as_buffer self.old) count result (as_buffer self.new) }
+        ensures same { self.new ≡ self.old }
+    {
+        count == 0 && !self.closed
     }
 
     fn close(&mut self) -> Result<(), IoFault>

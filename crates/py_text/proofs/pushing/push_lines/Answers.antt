@@ -1,4 +1,4 @@
-use Rattle.std.proofs.Common.{rules, ◌≡◌, length, chars, arith}
+use Rattle.std.proofs.Common.{rules, ◌≡◌, length, chars, refl, arith}
 use Rattle.py_text.proofs.Lines.{nothing-written, done-nothing, run-whole, left-whole, done-last, done-ended}
 use Rattle.py_text.proofs.pushing.push_lines.Goals as goal
 
@@ -13,8 +13,8 @@ pub loop-left-preserved : goal.loop-left-preserved
 loop-left-preserved c = record {
   is_text = c.cut_at_lf-cut.ensures.left;
   whole = left-whole c.args.coder _ _ _ _ c.cut_at_lf-cut.ensures.cut c.if-not-cut.false c.loop-left.invariant.whole;
-  done = done-ended c.args.coder c.args.newline c.args.out.now.items c.loop-left.out.items c.push_as_is.new.out.items c.push_as_is-in-loop-left.new.out.items (chars c.args.text.now) _ _ (chars c.line_end.result.now) _ _ c.loop-left.invariant.done c.cut_at_lf-cut.ensures.cut c.if-not-cut.false c.in_ok-push_as_is.ensures.ok c.line_end.ensures c.in_ok-push_as_is-2.ensures.ok;
-  room = omega (arith, c.loop-left.invariant.room, c.in_ok-push_as_is.ensures.capacity, c.in_ok-push_as_is-2.ensures.capacity);
+  done = done-ended c.args.coder c.args.newline c.args.out.now.items c.loop-left.out.items c.push_as_is.new.out.items c.push_line_end.new.out.items (chars c.args.text.now) _ _ _ _ _ c.loop-left.invariant.done c.cut_at_lf-cut.ensures.cut c.if-not-cut.false c.in_ok-push_as_is.ensures.ok refl c.in_ok-push_line_end.ensures.ok;
+  room = omega (arith, c.loop-left.invariant.room, c.in_ok-push_as_is.ensures.capacity, c.in_ok-push_line_end.ensures.capacity);
 }
 
 pub returns-clause-ok : goal.returns-clause-ok

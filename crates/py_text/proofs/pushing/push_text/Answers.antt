@@ -8,7 +8,6 @@ returns-in-Universal c =
     let after = c.push_as_is.new.out.items in
     record {
       ok = subst (λ (bytes : List ℕ). OnOk c.push_as_is.result (after ≡ before ++ bytes)) (sym (keeps-each c.args.coder c.args.newline (chars c.args.text.now) (three-keep c.args.newline c.in-Universal.is))) c.push_as_is.ensures.ok;
-      err = c.push_as_is.ensures.err;
       kept = on-err c.push_as_is.result (after ≡ before) (take (length before) after ≡ before) (same-kept before after) c.push_as_is.ensures.same;
       capacity = c.push_as_is.ensures.capacity;
     }

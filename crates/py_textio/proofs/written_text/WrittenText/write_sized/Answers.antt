@@ -36,8 +36,8 @@ returns-in-Err g c =
 
 pub hand_on-requires-clause-some : goal.hand_on-requires-clause-some
 hand_on-requires-clause-some g c =
-    let put = put_is c.args.self.now c.go_back.new.self c.put.new.self (chars c.args.text.now) c.in-Ok.ensures.outcome c.in-Ok-put.ensures.put in
-    λ flushes. put_some c.args.self.now c.go_back.new.self c.put.new.self (chars c.args.text.now) put c.requires.whole (then_second _ _ (sym c.flushes-flushes.ensures ∙ flushes))
+    let counts = c.in-Ok-put.ensures.count ∙ ap (λ (settings : TextSettings). length (written_bytes settings (chars c.args.text.now))) c.in-Ok.ensures.outcome.hands.settings in
+    λ flushes. put_some c.args.self.now (chars c.args.text.now) c.in-Ok-put.bytes counts c.requires.whole (then_second _ _ (sym c.flushes-flushes.ensures ∙ flushes))
 
 pub returns-in-Err-put : goal.returns-in-Err-put
 returns-in-Err-put g c =
