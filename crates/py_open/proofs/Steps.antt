@@ -437,7 +437,7 @@ open_by current raw lives is = is
 text_shut : (before : TextState) (call : TextFileCall) (reply : FileReply) (after : TextState) → text.is_getter call ≡ false → over.Answers before call reply after → OnlyReads (TextSession before) → OwesNothing after → after.text.life ≡ life.Closed → ClosedWith before.text.life before.text.buffer.raw → ClosedWith after.text.life after.text.buffer.raw
 text_shut before text.Close reply after asks step reads still closed shut =
     subst (λ (current : Life). ClosedWith current after.text.buffer.raw) still.life_is
-    (step.shut reads.1.own (parts_none before.text.buffer after.text.buffer reply reads.0) (ap (λ (owed : Owed). owed.bytes) still.none) (subst (λ (current : Life). ClosedWith current before.text.buffer.raw) (sym reads.1.life_is) shut))
+    ((step.shut reads.1.own).shut (parts_none before.text.buffer after.text.buffer reply reads.0) (ap (λ (owed : Owed). owed.bytes) still.none) (subst (λ (current : Life). ClosedWith current before.text.buffer.raw) (sym reads.1.life_is) shut))
 text_shut before call reply after asks step reads still closed shut =
     let was : before.text.life ≡ life.Closed = not_closed before.text.buffer.can.writable call reply before.text.life after.text.life step.moves.life_is refl closed in
     subst (λ (current : Life). ClosedWith current after.text.buffer.raw) (was ∙ sym closed)

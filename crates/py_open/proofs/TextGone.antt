@@ -60,7 +60,7 @@ closes_none Close buffer = tt
 closes_none call buffer = tt
 
 shut_still : (call : TextFileCall) (buffer : Buffer) → ClosesWithRaw call buffer (Refused fault.Detached) buffer
-shut_still Close buffer = λ whole none closed. closed
+shut_still Close buffer = record { shut = λ whole none closed. closed; parted = λ parts. refl }
 shut_still call buffer = tt
 
 passes_nothing : (before : TextState) (call : TextFileCall) (after : TextState) → TextPasses before call (Refused fault.Detached) after

@@ -337,7 +337,7 @@ close_so old after result live is answers =
       closes = close_closes old.buffer after result live answers;
       stays = close_open old.buffer after result live is.kept answers;
       unclosed = λ some closed. answers.unclosed (λ none. some (ap (λ (bytes : List ℕ). bytes ++ []) none));
-      shut = λ own. answers.shut;
+      shut = λ own. record { shut = answers.shut; parted = answers.parted };
       spares = λ can none. let spared = answers.spares can none in record { bytes = spared.bytes; written = spared.written; owed = spared.owed };
       tied = record { owed = λ can. refl; life_is = λ can was had. refl };
       stands = λ stood. answers.stands;

@@ -30,7 +30,7 @@ use Rattle.py_plain_text.specs.TextCalls.{TextFileCall, Read, ReadLine, WriteTex
 use Rattle.py_plain_text.specs.TextRefusals.{refusal}
 use Rattle.py_plain_text.specs.TextAllowed.{TextFileStep}
 use Rattle.py_plain_text.specs.TextWriting.{written_bytes}
-use Rattle.py_raw.specs.RawStream.{KeepsBytes, AnswersFor}
+use Rattle.py_raw.specs.RawStream.{StaysOpen, KeepsBytes, AnswersFor}
 use Rattle.py_stream.specs.Stream.{nothing_owed}
 use Rattle.py_stream.specs.Kinds.{says_fault, says_no_memory}
 use Rattle.py_stream.specs.Answers.{HasCauses}
@@ -333,10 +333,15 @@ pub record IsCounted (before : TextState) (call : TextFileCall) (reply : FileRep
   pub faults : says_fault reply ≡ false → after.text.buffer.raw.faults ≡ before.text.buffer.raw.faults
   pub ends : passes_on before.text.owed call ≡ false → WaitEnds before reply after
 
--- a close leaves the raw closed exactly where the buffer is, once nothing is owed, but where it failed to move the raw back to the buffer's
--- place
+-- whether the raw is closed after a close
+pub record LeavesRaw (before : Buffer) (reply : FileReply) (after : Buffer) : Type 0 where
+  -- exactly where the buffer is, once nothing is owed, but where the close failed to move the raw back to the buffer's place
+  pub shut : parts_when_closed before binary.Close reply after ≡ false → after.owed.bytes ≡ [] → IsClosedWithRaw before → IsClosedWithRaw after
+  -- and there it is as it was
+  pub parted : parts_when_closed before binary.Close reply after ≡ true → StaysOpen before.raw after.raw
+
 abbrev pub ClosesWithRaw : TextFileCall → Buffer → FileReply → Buffer → Type 0
-ClosesWithRaw Close before reply after = parts_when_closed before binary.Close reply after ≡ false → after.owed.bytes ≡ [] → IsClosedWithRaw before → IsClosedWithRaw after
+ClosesWithRaw Close before reply after = LeavesRaw before reply after
 ClosesWithRaw call before reply after = Unit {0}
 
 -- a flush, a close and a detaching need no memory but their raw's
@@ -480,7 +485,7 @@ pub record Answers (before : TextState) (call : TextFileCall) (reply : FileReply
   pub stays : may_close call reply ≡ false → KeepsOpen before.text.buffer after.text.buffer
   -- nor does a call close it that leaves bytes owed, whatever it answers
   pub unclosed : StaysWhileOwing before.text.buffer after.text
-  -- a close of a text that itself owed nothing leaves the raw closed where the buffer is
+  -- a close of a text that itself owed nothing leaves the raw closed where the buffer is, and leaves it open where it failed to move it back
   pub shut : before.text.owed ≡ [] → ClosesWithRaw call before.text.buffer reply after.text.buffer
   -- a buffer that doesn't write leaves the raw's bytes, and owes nothing
   pub spares : before.text.buffer.can.writable ≡ false → before.text.buffer.owed ≡ nothing_owed before.text.buffer.place → SparesBytes before.text.buffer after.text.buffer

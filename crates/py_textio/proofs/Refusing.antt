@@ -80,7 +80,7 @@ wants_refused Detach why buffer own = tt
 wants_refused call why buffer own = tt
 
 shut_refused : (call : TextFileCall) (why : IoFault) (buffer : Buffer) → ClosesWithRaw call buffer (Refused why) buffer
-shut_refused Close why buffer = λ whole none closed. closed
+shut_refused Close why buffer = record { shut = λ whole none closed. closed; parted = λ parts. refl }
 shut_refused call why buffer = tt
 
 starves_refused : (text : TextOver Buffer) (call : TextFileCall) (why : IoFault) → Starves text call (Refused why) text
@@ -324,7 +324,7 @@ closed_again now text was same is joined =
       answer = λ accepts. tt;
       complete = λ accepts calm sound. record { answer = tt; whole = refl };
       wants = tt;
-      shut = λ own whole none closed. closed;
+      shut = λ own. record { shut = λ whole none closed. closed; parted = λ parts. refl };
       spares = λ can none. record { bytes = λ told. refl; written = λ told. refl; owed = none };
       tied = record { owed = λ can. refl; life_is = λ can was had. was };
       stands = λ stood. stood;
