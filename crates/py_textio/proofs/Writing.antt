@@ -9,7 +9,8 @@ use Rattle.py_flat.specs.declared.life.Life.TheVariants as life
 use Rattle.py_flat.specs.Bytes.{lay}
 use Rattle.py_flat.specs.FlatFile.{Abilities}
 use Rattle.py_flat.specs.AllowedStep.{settled, waited_for, raw_faulted, out_of_memory}
-use Rattle.py_flat.specs.Calls.{Count, Write, Refused}
+use Rattle.py_flat.specs.Calls.{FileReply, Count, Write, Refused}
+use Rattle.py_flat.specs.Causes.{rose}
 use Rattle.py_flat.specs.BinaryStep.{is_live}
 use Rattle.py_plain_text.specs.TextFile.{TextFile, TextPlace, TextSettings, clean_at}
 use Rattle.py_plain_text.specs.TextOver.{TextOver}
@@ -24,14 +25,14 @@ use Rattle.py_plain_text.specs.TextWriting.{written_bytes, written_refusal}
 use Rattle.py_plain_text.specs.TextExact.{after_writing}
 use Rattle.py_plain_text.specs.TextAllowed.{SettledBy, Fails, does_work, reaches_raw, TextFileStep}
 use Rattle.py_raw.proofs.Telling.{tells_still}
-use Rattle.py_stream.specs.Kinds.{says_wait}
+use Rattle.py_stream.specs.Kinds.{says_wait, says_fault}
 use Rattle.py_stream.specs.Buffer.{Buffer, WhereShown, flat_of, AnswersAsBuffer}
 use Rattle.py_read_text.specs.Knowing.{place_of}
 use Rattle.py_read_text.proofs.Placing.{not_far}
-use Rattle.py_read_text.specs.Owing.{all_owed, behind_own, IsJoined, PassesOwed, OwesOn, own_from, HasOwn, has_line_end, flushes_behind, GaveOwn, StopsOwing, all_from, LaysFront, LaysOwed}
+use Rattle.py_read_text.specs.Owing.{all_owed, behind_own, IsJoined, PassesOwed, OwesOn, own_from, HasOwn, has_line_end, flushes_behind, GaveOwn, Starves, StopsOwing, KeepsOpen, all_from, LaysFront, LaysOwed}
 use Rattle.py_read_text.proofs.Owing.{passes_then, passes_behind, owes_none, open_then, owing_open}
-use Rattle.py_read_text.specs.Answers.{further, StaysAhead, IsPassedOn, KeepsFew, HoldsBack, WritesAll, TextHolds, Answers}
-use Rattle.py_textio.specs.Written.{WrittenView, behind_owed, place_now, over_of, state_of, file_now, HandsOnBut, HandsOn, TookText, IsKept, StandsToWrite, GoesBack, BackOutcome, kept_of, LetsGo, HandOutcome, KeepsOwed, HandsOnOnce, TookPending}
+use Rattle.py_read_text.specs.Answers.{further, IsReplyTo, IsComplete, IsShort, LifeMoves, WriteMoves, StaysAhead, IsPassedOn, KeepsFew, HoldsBack, WritesAll, TextPasses, TextKeeps, TextHolds, Answers}
+use Rattle.py_textio.specs.Written.{WrittenView, CallsBuffer, behind_owed, place_now, over_of, state_of, file_now, HandsOnBut, HandsOn, TookText, IsKept, StandsToWrite, GoesBack, BackOutcome, kept_of, LetsGo, HandOutcome, KeepsOwed, HandsOnOnce, TookPending}
 use Rattle.py_textio.proofs.Ended.{ended-some}
 use Rattle.py_textio.proofs.Refusing.{refused}
 use Rattle.py_textio.proofs.Settling.{behind_so, clean_place, own_from_is, both_true, hands_itself}
@@ -101,43 +102,83 @@ count_step : (file after : TextFile) (text : List ℕ) (count : ℕ) → refusal
 count_step file after text count accepted counts same =
     settled (subst (λ (refused : Option IoFault). SettledBy file (WriteText text) refused (Count count) after) (sym accepted) (rw (counts, same) refl))
 
--- the fields that every write has
+-- A write for which the buffer was called: what each answer says of it by itself.
+record Writes (old : WrittenView) (text : List ℕ) (reply : FileReply) (new : WrittenView) (short : Bool) : Type 0 where
+  pub calls : CallsBuffer old.text.buffer short (says_fault reply) new.text.buffer
+  pub stays : KeepsOpen old.text.buffer new.text.buffer
+  pub shorts : IsShort reply short
+  pub settings : new.text.settings ≡ old.text.settings
+  pub life_is : LifeMoves true (WriteText text) reply old.life new.life
+  pub written : WriteMoves (over_of old) (WriteText text) reply (over_of new)
+  pub joined : IsJoined (over_of new)
+  pub owes : OwesOn (over_of old) (WriteText text) (over_of new)
+  pub lays : LaysOwed (over_of old) (all_owed (over_of old) ++ own_bytes old text) (over_of new)
+  pub starves : Starves (over_of old) (WriteText text) reply (over_of new)
+  pub stops : IsTrue short → StopsOwing false (over_of new)
+  pub answer : IsReplyTo true (WriteText text) reply
+  pub complete : rose old.text.buffer.raw.waits new.text.buffer.raw.waits ≡ false → rose old.text.buffer.raw.faults new.text.buffer.raw.faults ≡ false → IsComplete (WriteText text) reply short
+  pub told : WhereShown old.text.buffer (TextFileStep (file_now old) (WriteText text) reply short (says_fault reply) (file_now new))
+  pub passes : TextPasses (state_of old false) (WriteText text) reply (state_of new short)
+  pub kept : TextKeeps (WriteText text) reply (state_of new short)
+  pub holds : TextHolds (over_of old) (WriteText text) reply (over_of new)
 
-pub wrote : (old new : WrittenView) (text : List ℕ) (count : ℕ) → MayWrite old text → TookText old (own_bytes old text) false false new → new.life ≡ life.Live → IsJoined (over_of new) → count ≡ length text → KeepsFew (state_of new false) → (old.text.settings.line_buffering ≡ true → has_line_end text ≡ true → IsPassedOn (state_of new false)) → TextHolds (over_of old) (WriteText text) (Count count) (over_of new) → Answers (state_of old false) (WriteText text) (Count count) (state_of new false)
-wrote old new text count may took lives joined counts few passed holds =
-    let current : new.life ≡ old.life = lives ∙ sym may.live in
-    answers_work old (WriteText text) (Count count) new false (record {
+answers_write : (old : WrittenView) (text : List ℕ) (reply : FileReply) (new : WrittenView) (short : Bool) → MayWrite old text → Writes old text reply new short → Answers (state_of old false) (WriteText text) reply (state_of new short)
+answers_write old text reply new short may is =
+    answers_work old (WriteText text) reply new short (record {
       accepted = may.accepted;
       once = refl;
       some = refl;
       busy = refl;
       writes = may.writes;
+      calls = is.calls;
+      shorts = is.shorts;
+      settings = is.settings;
+      life_is = is.life_is;
+      place = tt;
+      written = is.written;
+      lines = tt;
+      blames = tt;
+      seeks = tt;
+      joined = is.joined;
+      owes = is.owes;
+      lays = is.lays;
+      starves = is.starves;
+      closes = tt;
+      stays = λ never. is.stays;
+      unclosed = owing_open old.text.buffer (over_of new) is.stays;
+      stops = is.stops;
+      answer = is.answer;
+      complete = is.complete;
+      wants = tt;
+      shut = λ none. tt;
+      told = is.told;
+      needs = λ gives. absurd (cc);
+      hides = λ waits gives. absurd (cc);
+      passes = is.passes;
+      by_own = tt;
+      kept = is.kept;
+      holds = is.holds;
+    })
+
+pub wrote : (old new : WrittenView) (text : List ℕ) (count : ℕ) → MayWrite old text → TookText old (own_bytes old text) false false new → new.life ≡ life.Live → IsJoined (over_of new) → count ≡ length text → KeepsFew (state_of new false) → (old.text.settings.line_buffering ≡ true → has_line_end text ≡ true → IsPassedOn (state_of new false)) → TextHolds (over_of old) (WriteText text) (Count count) (over_of new) → Answers (state_of old false) (WriteText text) (Count count) (state_of new false)
+wrote old new text count may took lives joined counts few passed holds =
+    let current : new.life ≡ old.life = lives ∙ sym may.live in
+    answers_write old text (Count count) new false may (record {
       calls = took.calls;
       shorts = refl;
       settings = took.settings;
       life_is = current;
-      place = tt;
       written = took.place;
-      lines = tt;
-      blames = tt;
-      seeks = tt;
       joined = joined;
       owes = owes_took old new text false false took;
       lays = took.lays;
       starves = tt;
-      closes = tt;
-      stays = λ is. took.stays;
-      unclosed = owing_open old.text.buffer (over_of new) took.stays;
+      stays = took.stays;
       stops = λ short. absurd (cc);
       answer = counts;
       complete = λ calm sound. record { answer = counts; whole = refl };
-      wants = tt;
-      shut = λ none. tt;
       told = λ told. count_step (file_now old) (file_now new) text count may.accepted counts (written_file old new (own_bytes old text) false false took current told);
-      needs = λ gives. absurd (cc);
-      hides = λ is. absurd (cc);
       passes = passed;
-      by_own = tt;
       kept = few;
       holds = holds;
     })
@@ -145,38 +186,22 @@ wrote old new text count may took lives joined counts few passed holds =
 pub wrote_blocked : (old new : WrittenView) (text : List ℕ) (taken : ℕ) → MayWrite old text → TookText old (own_bytes old text) true false new → new.life ≡ life.Live → IsJoined (over_of new) → taken ≡ length (own_bytes old text) → StopsOwing false (over_of new) → Answers (state_of old false) (WriteText text) (Refused (fault.WouldBlock taken)) (state_of new true)
 wrote_blocked old new text taken may took lives joined counts stops =
     let current : new.life ≡ old.life = lives ∙ sym may.live in
-    answers_work old (WriteText text) (Refused (fault.WouldBlock taken)) new true (record {
-      accepted = may.accepted;
-      once = refl;
-      some = refl;
-      busy = refl;
-      writes = may.writes;
+    answers_write old text (Refused (fault.WouldBlock taken)) new true may (record {
       calls = took.calls;
       shorts = refl;
       settings = took.settings;
       life_is = current;
-      place = tt;
       written = (counts, took.place ∙ ap (further (place_now old)) (sym counts));
-      lines = tt;
-      blames = tt;
-      seeks = tt;
       joined = joined;
       owes = owes_took old new text true false took;
       lays = took.lays;
       starves = tt;
-      closes = tt;
-      stays = λ is. took.stays;
-      unclosed = owing_open old.text.buffer (over_of new) took.stays;
+      stays = took.stays;
       stops = λ short. stops;
       answer = refl;
       complete = λ calm sound. absurd (not_rose old.text.buffer.raw.waits new.text.buffer.raw.waits (took.calls.wait refl) calm);
-      wants = tt;
-      shut = λ none. tt;
       told = λ told. waited_for refl (works_writing (file_now old) text may.live may.accepted, (ap (λ (size : ℕ). Refused (fault.WouldBlock size)) counts, written_file old new (own_bytes old text) true false took current told));
-      needs = λ gives. absurd (cc);
-      hides = λ is gives. absurd (cc);
       passes = tt;
-      by_own = tt;
       kept = tt;
       holds = tt;
     })
@@ -184,38 +209,22 @@ wrote_blocked old new text taken may took lives joined counts stops =
 pub wrote_failed : (old new : WrittenView) (text : List ℕ) → MayWrite old text → TookText old (own_bytes old text) false true new → new.life ≡ life.Failed → IsJoined (over_of new) → Answers (state_of old false) (WriteText text) (Refused fault.RawFault) (state_of new false)
 wrote_failed old new text may took failed joined =
     let bytes : List ℕ = own_bytes old text in
-    answers_work old (WriteText text) (Refused fault.RawFault) new false (record {
-      accepted = may.accepted;
-      once = refl;
-      some = refl;
-      busy = refl;
-      writes = may.writes;
+    answers_write old text (Refused fault.RawFault) new false may (record {
       calls = took.calls;
       shorts = refl;
       settings = took.settings;
       life_is = failed;
-      place = tt;
       written = inl (record { place = took.place; bytes = took.bytes });
-      lines = tt;
-      blames = tt;
-      seeks = tt;
       joined = joined;
       owes = owes_took old new text false true took;
       lays = took.lays;
       starves = tt;
-      closes = tt;
-      stays = λ is. took.stays;
-      unclosed = owing_open old.text.buffer (over_of new) took.stays;
+      stays = took.stays;
       stops = λ short. absurd (cc);
       answer = tt;
       complete = λ calm sound. absurd (not_rose old.text.buffer.raw.faults new.text.buffer.raw.faults (took.calls.fault refl) sound);
-      wants = tt;
-      shut = λ none. tt;
       told = λ told. raw_faulted refl refl (reaches_writing (file_now old) text may.live may.accepted, (length bytes, omega arith, whole_fails old new bytes life.Failed failed (took.bytes told) took.calls.keeps.can took.settings));
-      needs = λ gives. absurd (cc);
-      hides = λ is. absurd (cc);
       passes = tt;
-      by_own = tt;
       kept = tt;
       holds = tt;
     })
@@ -226,38 +235,22 @@ wrote_failed old new text may took failed joined =
 pub wrote_starved : (old new : WrittenView) (text : List ℕ) → MayWrite old text → TookText old (own_bytes old text) false false new → new.life ≡ life.Failed → HasOwn (over_of old) (WriteText text) → GaveOwn (flushes_behind old.text.settings (WriteText text)) (length (own_bytes old text)) (over_of old) (over_of new) → IsTrue old.text.buffer.raw.takes_memory → IsJoined (over_of new) → Answers (state_of old false) (WriteText text) (Refused fault.NoMemory) (state_of new false)
 wrote_starved old new text may took failed has gave takes joined =
     let bytes : List ℕ = own_bytes old text in
-    answers_work old (WriteText text) (Refused fault.NoMemory) new false (record {
-      accepted = may.accepted;
-      once = refl;
-      some = refl;
-      busy = refl;
-      writes = may.writes;
+    answers_write old text (Refused fault.NoMemory) new false may (record {
       calls = took.calls;
       shorts = refl;
       settings = took.settings;
       life_is = inr (refl, failed);
-      place = tt;
       written = inr (failed, record { place = took.place; bytes = took.bytes });
-      lines = tt;
-      blames = tt;
-      seeks = tt;
       joined = joined;
       owes = owes_took old new text false false took;
       lays = took.lays;
       starves = inr (inl (record { life_is = failed; takes = takes; has = has; gave = gave }));
-      closes = tt;
-      stays = λ is. took.stays;
-      unclosed = owing_open old.text.buffer (over_of new) took.stays;
+      stays = took.stays;
       stops = λ short. absurd (cc);
       answer = tt;
       complete = λ calm sound. record { answer = tt; whole = refl };
-      wants = tt;
-      shut = λ none. tt;
       told = λ told. out_of_memory refl (inr (reaches_writing (file_now old) text may.live may.accepted, (may.writes, (length bytes, omega arith, record { life_is = failed; bytes_are = took.bytes told ∙ ap (lay (file_now old).bytes (place_now old).at) (sym (take_all (length bytes) bytes (omega arith))); can = took.calls.keeps.can; settings = took.settings }))));
-      needs = λ gives. absurd (cc);
-      hides = λ is. absurd (cc);
       passes = tt;
-      by_own = tt;
       kept = tt;
       holds = tt;
     })
@@ -270,38 +263,22 @@ or_false false is = absurd (cc)
 
 pub unwritten_failed : (old new : WrittenView) (text : List ℕ) → MayWrite old text → HandsOn old false true new → new.life ≡ life.Failed → StaysAhead (over_of old) (over_of new) → IsJoined (over_of new) → Answers (state_of old false) (WriteText text) (Refused fault.RawFault) (state_of new false)
 unwritten_failed old new text may hands failed stays joined =
-    answers_work old (WriteText text) (Refused fault.RawFault) new false (record {
-      accepted = may.accepted;
-      once = refl;
-      some = refl;
-      busy = refl;
-      writes = may.writes;
+    answers_write old text (Refused fault.RawFault) new false may (record {
       calls = hands.calls;
       shorts = refl;
       settings = hands.settings;
       life_is = failed;
-      place = tt;
       written = inr stays;
-      lines = tt;
-      blames = tt;
-      seeks = tt;
       joined = joined;
       owes = owes_not old new text false true hands;
       lays = lays_given (over_of old) (own_bytes old text) (over_of new) hands.lays;
       starves = tt;
-      closes = tt;
-      stays = λ is. hands.stays;
-      unclosed = owing_open old.text.buffer (over_of new) hands.stays;
+      stays = hands.stays;
       stops = λ short. absurd (cc);
       answer = tt;
       complete = λ calm sound. absurd (not_rose old.text.buffer.raw.faults new.text.buffer.raw.faults (hands.calls.fault refl) sound);
-      wants = tt;
-      shut = λ none. tt;
       told = λ told. raw_faulted refl refl (reaches_writing (file_now old) text may.live may.accepted, (0, omega arith, fails_still (file_now old) (file_now new) life.Failed failed (hands.bytes told) hands.calls.keeps.can hands.settings));
-      needs = λ gives. absurd (cc);
-      hides = λ is. absurd (cc);
       passes = tt;
-      by_own = tt;
       kept = tt;
       holds = tt;
     })
@@ -309,38 +286,22 @@ unwritten_failed old new text may hands failed stays joined =
 pub unwritten_starved : (old new : WrittenView) (text : List ℕ) → MayWrite old text → HandsOnBut (own_bytes old text) old false false new → new.life ≡ life.Live → IsJoined (over_of new) → Answers (state_of old false) (WriteText text) (Refused fault.NoMemory) (state_of new false)
 unwritten_starved old new text may hands lives joined =
     let current : new.life ≡ old.life = lives ∙ sym may.live in
-    answers_work old (WriteText text) (Refused fault.NoMemory) new false (record {
-      accepted = may.accepted;
-      once = refl;
-      some = refl;
-      busy = refl;
-      writes = may.writes;
+    answers_write old text (Refused fault.NoMemory) new false may (record {
       calls = hands.calls;
       shorts = refl;
       settings = hands.settings;
       life_is = inl current;
-      place = tt;
       written = inl (current, hands.place);
-      lines = tt;
-      blames = tt;
-      seeks = tt;
       joined = joined;
       owes = owes_not old new text false false hands;
       lays = hands.lays;
       starves = inl (record { life_is = current; settings = hands.settings; place = hands.place });
-      closes = tt;
-      stays = λ is. hands.stays;
-      unclosed = owing_open old.text.buffer (over_of new) hands.stays;
+      stays = hands.stays;
       stops = λ short. absurd (cc);
       answer = tt;
       complete = λ calm sound. record { answer = tt; whole = refl };
-      wants = tt;
-      shut = λ none. tt;
       told = λ told. out_of_memory refl (inl (or_false (reaches_raw (file_now old) (WriteText text)) (reaches_writing (file_now old) text may.live may.accepted), handed_file old new false false hands current told));
-      needs = λ gives. absurd (cc);
-      hides = λ is. absurd (cc);
       passes = tt;
-      by_own = tt;
       kept = tt;
       holds = tt;
     })
