@@ -44,20 +44,20 @@ starts_at buffer own at stands (inl none) =
 starts_at buffer own at stands (inr below) = inr (below, omega (arith, stands, below, length-append buffer.owed.bytes own))
 
 -- the bytes of a text are its raw's, with all that it and its buffer owe laid on where that begins
-pub laid_all : {from taken : ℕ} → (buffer : Buffer) (own : List ℕ) (at : ℕ) → JoinsAt buffer own from at taken → lay (flat_of buffer).bytes buffer.place own ≡ lay buffer.raw.bytes (at - length (buffer.owed.bytes ++ own)) (buffer.owed.bytes ++ own)
+pub laid_all : {from taken : ℕ} {current : Life} → (buffer : Buffer) (own : List ℕ) (at : ℕ) → JoinsAt buffer own from at taken current → lay (flat_of buffer).bytes buffer.place own ≡ lay buffer.raw.bytes (at - length (buffer.owed.bytes ++ own)) (buffer.owed.bytes ++ own)
 laid_all buffer own at joined = by joined.stands
   where
     by : ((buffer.owed.bytes ≡ []) × (own ≡ [])) ⊎ (at ≡ buffer.place + length own) → lay (flat_of buffer).bytes buffer.place own ≡ lay buffer.raw.bytes (at - length (buffer.owed.bytes ++ own)) (buffer.owed.bytes ++ own)
     by (inl none) = rw (none.0, none.1) refl
     by (inr stands) = laid_both buffer.raw.bytes buffer.owed.place buffer.owed.bytes buffer.place own (at - length (buffer.owed.bytes ++ own)) (starts_at buffer own at stands joined.below)
 
-all_reads : {from taken : ℕ} → (buffer : Buffer) (own : List ℕ) (at : ℕ) → JoinsAt buffer own from at taken → take (length (buffer.owed.bytes ++ own)) (drop (at - length (buffer.owed.bytes ++ own)) (lay (flat_of buffer).bytes buffer.place own)) ≡ buffer.owed.bytes ++ own
+all_reads : {from taken : ℕ} {current : Life} → (buffer : Buffer) (own : List ℕ) (at : ℕ) → JoinsAt buffer own from at taken current → take (length (buffer.owed.bytes ++ own)) (drop (at - length (buffer.owed.bytes ++ own)) (lay (flat_of buffer).bytes buffer.place own)) ≡ buffer.owed.bytes ++ own
 all_reads buffer own at joined =
     ap (λ (bytes : List ℕ). take (length (buffer.owed.bytes ++ own)) (drop (at - length (buffer.owed.bytes ++ own)) bytes)) (laid_all buffer own at joined)
     ∙ lay_reads_back buffer.raw.bytes (at - length (buffer.owed.bytes ++ own)) (buffer.owed.bytes ++ own)
 
 -- all that a text and its buffer owe stands in its bytes, at the place that is handed over, or where the raw can't seek at some place
-all_stand : {from taken : ℕ} → (buffer : Buffer) (own : List ℕ) (at : ℕ) (seekable : Bool) → JoinsAt buffer own from at taken → StandAt (buffer.owed.bytes ++ own) seekable (if seekable then Some (at - length (buffer.owed.bytes ++ own)) else None) (lay (flat_of buffer).bytes buffer.place own)
+all_stand : {from taken : ℕ} {current : Life} → (buffer : Buffer) (own : List ℕ) (at : ℕ) (seekable : Bool) → JoinsAt buffer own from at taken current → StandAt (buffer.owed.bytes ++ own) seekable (if seekable then Some (at - length (buffer.owed.bytes ++ own)) else None) (lay (flat_of buffer).bytes buffer.place own)
 all_stand buffer own at true joined = all_reads buffer own at joined
 all_stand buffer own at false joined = (at - length (buffer.owed.bytes ++ own), all_reads buffer own at joined)
 

@@ -1,6 +1,7 @@
 -- A session that isn't detached hands its raw back, with all that is owed in one piece.
 use Rattle.std.proofs.Common.{◌≡◌, ◌≢◌, ℕ, ◌+◌, ◌-◌, ◌≤◌, ◌⊎◌, inl, inr, Bool, true, false, List, [], length, Option, Some, None, IsSome, IfSome, option_map, unwrap_or, if◌then◌else◌, refl, sym, ap, ◌∙◌, subst, arith}
 use Rattle.std.proofs.lemmas.List.{length-append}
+use Rattle.py_flat.specs.declared.life.Life.{Life}
 use Rattle.py_flat.specs.declared.life.Life.TheVariants as life
 use Rattle.py_plain_text.specs.TextOver.{TextOver}
 use Rattle.py_raw.specs.RawStream.{Raw}
@@ -36,7 +37,7 @@ has_room stream taken text owed room own same fits has some =
     omega (arith, fits, has some, size)
 
 -- what is owed stands before the text
-owed_before : {from taken : ℕ} → (buffer : Buffer) (own : List ℕ) (at : ℕ) → JoinsAt buffer own from at taken → length buffer.owed.bytes ≤ at - length own
+owed_before : {from taken : ℕ} {current : Life} → (buffer : Buffer) (own : List ℕ) (at : ℕ) → JoinsAt buffer own from at taken current → length buffer.owed.bytes ≤ at - length own
 owed_before buffer own at joined = by joined.stands joined.below
   where
     by : ((buffer.owed.bytes ≡ []) × (own ≡ [])) ⊎ (at ≡ buffer.place + length own) → OwesUpTo buffer.owed buffer.place → length buffer.owed.bytes ≤ at - length own

@@ -101,7 +101,7 @@ holds_none before (WriteText text) after = tt
 holds_none before call after = tt
 
 gone_joined : (can : Abilities) (buffering : Buffering) (settings : TextSettings) (raw : Raw) → IsJoined (gone_text can buffering settings raw).text
-gone_joined can buffering settings raw = record { below = inl refl; stands = inl (refl, refl); behind = omega arith; far = omega arith; few = omega arith }
+gone_joined can buffering settings raw = record { below = inl refl; stands = inl (refl, refl); behind = omega arith; far = omega arith; few = omega arith; lives = λ live. absurd (cc) }
 
 gone_step : (file : TextFile) (call : TextFileCall) → refusal file call ≡ Some fault.Detached → TextFileStep file call (Refused fault.Detached) false false file
 gone_step file call is = settled (subst (λ (refused : Option IoFault). SettledBy file call refused (Refused fault.Detached) file) (sym is) (refl, refl))

@@ -12,7 +12,7 @@ use Rattle.py_stream.specs.Buffer.{Buffer, stream_shown, IsClosedWithRaw}
 use Rattle.py_stream.proofs.Taking.{answers_then}
 use Rattle.py_read_text.specs.Knowing.{TextView, over_of, IsText}
 use Rattle.py_read_text.proofs.Holding.{begins_before}
-use Rattle.py_read_text.specs.Owing.{all_owed, IsJoined, PassesOwed, given_by, WriteMovesBy, OwesOn, HasOwn, StaysAttached, KeepsOpen, StaysWhileOwing}
+use Rattle.py_read_text.specs.Owing.{all_owed, JoinsAt, IsJoined, PassesOwed, given_by, WriteMovesBy, OwesOn, HasOwn, StaysAttached, KeepsOpen, StaysWhileOwing}
 
 -- What is passed on.
 
@@ -77,8 +77,12 @@ has_own before call some = by_owed before.owed some (given_by before.settings ca
 
 -- Where what is owed stands.
 
+-- it stands so in each life in which the text may be over its buffer
+pub joined_in : {buffer : Buffer} {own : List ℕ} {from at taken : ℕ} {was : Life} → (current : Life) → (current ≡ life.Live → buffer.life ≡ life.Live) → JoinsAt buffer own from at taken was → JoinsAt buffer own from at taken current
+joined_in current lives is = record { below = is.below; stands = is.stands; behind = is.behind; far = is.far; few = is.few; lives = lives }
+
 pub joined_of : (text : TextView) → IsText text.buffer text.held text.front text.at text.taken text.dirty text.settings → IsJoined (over_of text)
-joined_of text is = record { below = is.owes; stands = by_place is.ahead; behind = omega (arith, is.forth, is.stands); far = omega (arith, is.far); few = omega (arith, is.few, is.forth, is.stands, begins_before text.front text.at text.taken text.held.front is.inside) }
+joined_of text is = record { below = is.owes; stands = by_place is.ahead; behind = omega (arith, is.forth, is.stands); far = omega (arith, is.far); few = omega (arith, is.few, is.forth, is.stands, begins_before text.front text.at text.taken text.held.front is.inside); lives = λ live. live }
   where
     by_place : (text.at ≡ text.buffer.place) ⊎ ((text.buffer.owed.bytes ≡ []) × (text.buffer.can.readable ≡ true)) → ((text.buffer.owed.bytes ≡ []) × (◌≡◌ {A = List ℕ} [] [])) ⊎ (text.at ≡ text.buffer.place + 0)
     by_place (inl there) = inr (omega (arith, there))

@@ -37,17 +37,18 @@ begins_at place = begins place.front place.at
 
 -- what a buffer owes ends where it stands, and bytes that a text owes itself begin there; where any of both are owed the text stands
 -- behind them. It stands nowhere further on, and that no further than a stream can. No more characters were taken since it was put at its
--- place than six for each byte from where that begins to where the buffer stands
-pub record JoinsAt (buffer : Buffer) (own : List ℕ) (from at taken : ℕ) : Type 0 where
+-- place than six for each byte from where that begins to where the buffer stands. And while the text lives so does its buffer
+pub record JoinsAt (buffer : Buffer) (own : List ℕ) (from at taken : ℕ) (current : Life) : Type 0 where
   pub below : OwesUpTo buffer.owed buffer.place
   pub stands : ((buffer.owed.bytes ≡ []) × (own ≡ [])) ⊎ (at ≡ buffer.place + length own)
   pub behind : at ≤ buffer.place + length own
   pub far : buffer.place + length own ≤ greatest_place
   pub few : taken ≤ 6 * (buffer.place - from)
+  pub lives : current ≡ life.Live → buffer.life ≡ life.Live
 
--- what a text and its buffer owe stands in one piece
+-- what a text and its buffer owe stands in one piece, and no live text has a buffer that doesn't live
 abbrev pub IsJoined : TextOver Buffer → Type 0
-IsJoined text = JoinsAt text.buffer text.owed (begins_at text.place) text.place.at text.place.taken
+IsJoined text = JoinsAt text.buffer text.owed (begins_at text.place) text.place.at text.place.taken text.life
 
 -- of bytes that were owed the first were passed on, exactly as many as the raw answered for, and the rest is owed
 pub record PassesOwed (before : Raw) (owed : List ℕ) (after : Raw) (left : List ℕ) : Type 0 where

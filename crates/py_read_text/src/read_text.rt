@@ -42,6 +42,9 @@ use std::alloc::Global;
 use std::fmt;
 use std::marker::Model;
 
+/// How many bytes the buffer is asked for at once at most, however large the chunks are: space is taken for as many before they come.
+const MOST_SIZE: usize = 65536;
+
 /// What a read of the buffer brought.
 #[derive(Clone, Copy)]
 pub(crate) enum Chunk {
@@ -574,13 +577,13 @@ impl<B: BufferedStream> ReadText<B> {
         (buffer, at)
     }
 
-    /// How many bytes the buffer is asked for next: a chunk, but no more than `FIRST_SIZE` where none were read since the text was put where it
-    /// is. From the first byte of a stream on it is asked for whole chunks, since such a text is mostly read on.
+    /// How many bytes the buffer is asked for next: a chunk, but never more than `MOST_SIZE`, and no more than `FIRST_SIZE` where none were read
+    /// since the text was put where it is. From the first byte of a stream on it is asked for whole chunks, since such a text is mostly read on.
     fn next_size(&self) -> usize
         ensures some { 0 < result }
         ensures few { result ≤ self.now.settings.chunk_size }
     {
-        let chunk = self.settings.chunk_size;
+        let chunk = self.settings.chunk_size.min(MOST_SIZE);
         if self.at > 0 && self.buffer_place() == self.at {
             return chunk.min(FIRST_SIZE);
         }

@@ -26,7 +26,7 @@ gone can settings = record {
 }
 
 gone_joined : (can : Abilities) (settings : TextSettings) → IsJoined (over_of (gone can settings))
-gone_joined can settings = record { below = inl refl; stands = inl (refl, refl); behind = omega arith; far = omega arith; few = omega arith }
+gone_joined can settings = record { below = inl refl; stands = inl (refl, refl); behind = omega arith; far = omega arith; few = omega arith; lives = λ live. absurd (cc) }
 
 pub gone_refuses : (file : TextFile) (call : TextFileCall) → file.life ≡ life.Detached → is_getter call ≡ false → refusal file call ≡ Some fault.Detached
 gone_refuses file call is asks = rw asks (rw is refl)

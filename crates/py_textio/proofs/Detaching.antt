@@ -22,7 +22,7 @@ use Rattle.py_stream.specs.Buffer.{Buffer, flat_of}
 use Rattle.py_read_text.specs.TextState.{TextState, file_of, settings_of}
 use Rattle.py_read_text.specs.Owing.{all_owed, behind_own, IsJoined, JoinsAt, Starves}
 use Rattle.py_read_text.specs.Answers.{passes_on, IsReplyTo, IsComplete, LifeMoves, WantsMemory, Answers}
-use Rattle.py_read_text.proofs.Owing.{passes_none, owes_none, open_still}
+use Rattle.py_read_text.proofs.Owing.{passes_none, owes_none, open_still, joined_in}
 use Rattle.py_read_text.proofs.Fronts.{lays_still}
 use Rattle.py_read_text.proofs.Living.{lives_on}
 use Rattle.py_textio.specs.declared.text_left.TextLeft.{TextLeft}
@@ -182,7 +182,7 @@ detached_done old new live answers =
       blames = tt;
       tells = tt;
       seeks = tt;
-      joined = answers.joined;
+      joined = joined_in life.Detached (λ live. absurd (cc)) answers.joined;
       owes = record { taken = answers.owes.taken; whole = answers.owes.whole; place = tt; passes = answers.owes.passes };
       lays = answers.lays;
       starves = tt;
@@ -224,7 +224,7 @@ accepts_failed : (file : TextFile) → file.life ≡ life.Failed → refusal fil
 accepts_failed file is = rw is refl
 
 -- what the text itself owes begins where the buffer stands
-begins_there : {from taken : ℕ} → (buffer : Buffer) (owed : List ℕ) (at : ℕ) → JoinsAt buffer owed from at taken → (owed ≡ []) ⊎ (at - length owed ≡ buffer.place)
+begins_there : {from taken : ℕ} {current : Life} → (buffer : Buffer) (owed : List ℕ) (at : ℕ) → JoinsAt buffer owed from at taken current → (owed ≡ []) ⊎ (at - length owed ≡ buffer.place)
 begins_there buffer owed at joined = by joined.stands
   where
     by : ((buffer.owed.bytes ≡ []) × (owed ≡ [])) ⊎ (at ≡ buffer.place + length owed) → (owed ≡ []) ⊎ (at - length owed ≡ buffer.place)
@@ -253,7 +253,7 @@ hands_failed old failed joined =
       blames = tt;
       tells = tt;
       seeks = tt;
-      joined = joined;
+      joined = joined_in life.Detached (λ live. absurd (cc)) joined;
       owes = owes_none old.text Detach (handed_over old old.text.buffer old.text.owed).text tt (passes_none old.text.buffer.raw (all_owed old.text));
       lays = lays_still old.text _;
       starves = tt;

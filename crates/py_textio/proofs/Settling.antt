@@ -32,7 +32,7 @@ use Rattle.py_read_text.specs.Writing.{unit_of, StandsBehind, LeavesFlat, Return
 use Rattle.py_raw.proofs.Telling.{keeps_same, tells_still}
 use Rattle.py_read_text.proofs.Placing.{accepts_write, flush_flat}
 use Rattle.py_read_text.proofs.Calling.{all_passed}
-use Rattle.py_read_text.proofs.Owing.{passes_none, passes_then, passes_behind, front_passes, takes_passed, open_still, open_then, open_of, open_called}
+use Rattle.py_read_text.proofs.Owing.{passes_none, passes_then, passes_behind, front_passes, takes_passed, open_still, open_then, open_of, open_called, joined_in}
 use Rattle.py_textio.proofs.Over.{calls_on}
 use Rattle.py_textio.specs.Written.{WrittenView, behind_owed, over_of, state_of, CallsBuffer, HandsOn, StandsToWrite, TakesNothing, kept_of, LetsGo, IsWritten, SettleOutcome, BackOutcome, PassOutcome, GivesOutcome, HandsOnOnce, with_taken}
 use Rattle.py_read_text.proofs.Fronts.{lays_none, lays_both, lays_alone, lays_owed, lays_on, lays_still}
@@ -251,10 +251,10 @@ settled_at now old new pending left room more before after result same is some l
 
 -- what a text and its buffer owe stands in one piece
 pub joined_with : (text : TextView) (pending : List ℕ) (room : ℕ) (current : Life) → IsWritten text pending current → IsJoined (over_of (view_of text pending room current))
-joined_with text [] room current is = is.joined
+joined_with text [] room current is = joined_in current is.lives is.joined
 joined_with text (byte ∷ more) room current is =
     let stands = stands_so text (byte ∷ more) current is (λ none. absurd (cc)) in
-    record { below = is.joined.below; stands = inr (omega (arith, stands.1)); behind = omega (arith, is.joined.behind); far = is.far; few = omega (arith, stands.0.taken) }
+    record { below = is.joined.below; stands = inr (omega (arith, stands.1)); behind = omega (arith, is.joined.behind); far = is.far; few = omega (arith, stands.0.taken); lives = is.lives }
 
 -- a text that owes nothing itself, seen by its parts and as the text that reads is
 pub state_same : (text : TextView) (pending : List ℕ) (room : ℕ) (current : Life) (short : Bool) → pending ≡ [] → current ≡ text.buffer.life → read_state text short ≡ state_of (view_of text pending room current) short
@@ -271,8 +271,8 @@ text_answers now old new pending room more before after call reply short same is
     (subst (λ (state : TextState). Answers state call reply (state_of (view_of new pending more after) short)) (state_same old pending room before false none (lives ∙ sym (is.lives lives)))
     (subst (Answers (read_state old false) call reply) (state_same new pending more after short none current) answers))
 
-pub joined_bare : (text : TextView) (pending : List ℕ) (room : ℕ) (current : Life) → pending ≡ [] → IsJoined (read_of text) → IsJoined (over_of (view_of text pending room current))
-joined_bare text pending room current none joined = subst (λ (owed : List ℕ). IsJoined (over_of (view_of text owed room current))) (sym none) joined
+pub joined_bare : (text : TextView) (pending : List ℕ) (room : ℕ) (current : Life) → pending ≡ [] → (current ≡ life.Live → text.buffer.life ≡ life.Live) → IsJoined (read_of text) → IsJoined (over_of (view_of text pending room current))
+joined_bare text pending room current none lives joined = subst (λ (owed : List ℕ). IsJoined (over_of (view_of text owed room current))) (sym none) (joined_in current lives joined)
 
 -- Going back to the place.
 

@@ -17,7 +17,7 @@ use Rattle.py_held_text.specs.declared.wanted.Wanted.{Wanted}
 use Rattle.py_held_text.specs.declared.wanted.Wanted.TheVariants.{Characters, Line}
 use Rattle.py_read_text.specs.Owing.{all_owed, IsJoined, WriteMovesBy, FailedWithOwn, Starves, KeepsOpen, Closes, given_by}
 use Rattle.py_read_text.proofs.Calling.{Passing, faulted_life, passes_accepted, fails_still, wait_step, fault_step, starve_step}
-use Rattle.py_read_text.proofs.Owing.{owes_none, has_own, owing_open}
+use Rattle.py_read_text.proofs.Owing.{owes_none, has_own, owing_open, joined_in}
 use Rattle.py_read_text.specs.Knowing.{place_of}
 use Rattle.py_read_text.specs.Answers.{refused_here, calls_nothing, passes_on, IsReplyTo, IsComplete, IsShort, PlaceMoves, ReadsOneLine, WriteMoves, LifeMoves, settings_after, closes_again, WantsMemory, TextPasses, TextKeeps, TextHolds, TextBlames, TextSeeks, Answers}
 use Rattle.py_read_text.specs.Reading.{call_of, asks_none}
@@ -249,7 +249,7 @@ passing_stops old new closes other owes sound there outcome joined = absurd outc
 pub close_fails : (old mid new : WrittenView) (why : IoFault) → Owes old → says_fault (Refused why) ≡ true → mid.text.at ≡ mid.text.buffer.place → SettleOutcome old (Err why) mid → IsJoined (over_of mid) → new ≡ record mid { life = life.Closed } → Answers (state_of old false) Close (Refused fault.RawFault) (state_of new false)
 close_fails old mid new fault.RawFault owes fails there outcome joined is =
     subst (λ (view : WrittenView). Answers (state_of old false) Close (Refused fault.RawFault) (state_of view false)) (sym is)
-    (passing_failed old (closed_of mid) true owes (record { calls = outcome.0.calls; bytes = outcome.0.bytes; place = outcome.0.place; settings = outcome.0.settings; owes = outcome.0.owes; lays = outcome.0.lays; stays = outcome.0.stays }) there refl joined)
+    (passing_failed old (closed_of mid) true owes (record { calls = outcome.0.calls; bytes = outcome.0.bytes; place = outcome.0.place; settings = outcome.0.settings; owes = outcome.0.owes; lays = outcome.0.lays; stays = outcome.0.stays }) there refl (joined_in life.Closed (λ live. absurd (cc)) joined))
 close_fails old mid new why owes fails there outcome joined is = absurd (cc)
 
 -- a close that had to wait, or ran out of memory, before its buffer was asked to close

@@ -3,7 +3,7 @@ use Rattle.std.proofs.Common.{◌≡◌, ◌-◌, [], ap, sym, refl, subst, ◌�
 use Rattle.py_flat.specs.declared.life.Life.TheVariants as life
 use Rattle.py_textio.specs.Written.{WrittenView, StandsToWrite}
 use Rattle.py_textio.proofs.Settling.{passed_waits, passed_faulted, joined_bare}
-use Rattle.py_textio.proofs.Giving.{starved_flush, starved_life, back_true, back_false, passed_back, passed_failed, written_given, written_failed}
+use Rattle.py_textio.proofs.Giving.{starved_flush, starved_life, back_true, back_false, back_shows, passed_back, passed_failed, written_given, written_failed}
 use Rattle.py_textio.proofs.written_text.WrittenText.pass_on.Goals as goal
 
 pub returns-then-is_wait-clause-outcome : goal.returns-then-is_wait-clause-outcome
@@ -36,7 +36,10 @@ returns-then-take_back-clause-outcome g c =
 
 pub returns-then-take_back-clause-joined : goal.returns-then-take_back-clause-joined
 returns-then-take_back-clause-joined g c =
-    joined_bare c.take_back.new.self _ 0 c.self.inside.life (ap (λ (view : WrittenView). view.pending) c.self.view_is ∙ c.requires.none) c.take_back.ensures.joined
+    let live = c.self.invariant.0.lives (ap (λ (view : WrittenView). view.life) c.self.view_is ∙ c.requires.live) in
+    let memory = starved_flush _ c.flush.new.self.buffer c.in-Err.fault live c.self.invariant.0.kept c.in-Err.ensures.answers (sym c.is_wait.ensures ∙ c.if-is_wait.false) (sym c.is_raw_fault.ensures ∙ c.if-is_raw_fault.false) in
+    let same = back_shows c.flush.new.self.buffer c.take_back.new.self.buffer c.args.count c.take_back.result c.take_back.ensures.takes in
+    joined_bare c.take_back.new.self _ 0 c.self.inside.life (ap (λ (view : WrittenView). view.pending) c.self.view_is ∙ c.requires.none) (λ lives. same.life_is ∙ (starved_life _ c.flush.new.self.buffer c.in-Err.fault c.in-Err.ensures.answers memory ∙ live)) c.take_back.ensures.joined
 
 pub invariant_of-self-in-Err : goal.invariant_of-self-in-Err
 invariant_of-self-in-Err g c =
@@ -53,4 +56,4 @@ returns-else-take_back-clause-outcome g c =
 
 pub returns-else-take_back-clause-joined : goal.returns-else-take_back-clause-joined
 returns-else-take_back-clause-joined g c =
-    joined_bare c.take_back.new.self _ 0 life.Failed (ap (λ (view : WrittenView). view.pending) c.self.view_is ∙ c.requires.none) c.take_back.ensures.joined
+    joined_bare c.take_back.new.self _ 0 life.Failed (ap (λ (view : WrittenView). view.pending) c.self.view_is ∙ c.requires.none) (λ lives. absurd (cc)) c.take_back.ensures.joined
