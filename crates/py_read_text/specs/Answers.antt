@@ -463,8 +463,8 @@ pub record Answers (before : TextState) (call : TextFileCall) (reply : FileReply
   pub tells : TextTells call reply before.text
   -- where a seek puts a text
   pub seeks : TextSeeks call reply before.text after.text.place
-  -- what the buffer owes and what the text itself does stand one behind the other, and how many characters were taken is bounded by where
-  -- the buffer stands
+  -- what the buffer owes and what the text itself does stand one behind the other, how many characters were taken is bounded by where the
+  -- buffer stands, and a live text's buffer lives
   pub joined : IsJoined after.text
   -- no byte is lost and none doubled: what is owed is what was and what the call gave, without what the raw answered for
   pub owes : OwesOn before.text call after.text

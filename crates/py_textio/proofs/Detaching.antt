@@ -26,7 +26,7 @@ use Rattle.py_read_text.proofs.Owing.{passes_none, owes_none, open_still, joined
 use Rattle.py_read_text.proofs.Fronts.{lays_still}
 use Rattle.py_read_text.proofs.Living.{lives_on}
 use Rattle.py_textio.specs.declared.text_left.TextLeft.{TextLeft}
-use Rattle.py_textio.specs.Handing.{place_handed, handed_over, owed_then, LivesWithBuffer, HandsOver, RefusesDetach, left_behind, detached_text, kept_abilities, can_of, seen_as, IsAttached, BeginsDetachIn, BeginsDetach}
+use Rattle.py_textio.specs.Handing.{place_handed, handed_over, owed_then, HandsOver, RefusesDetach, left_behind, detached_text, kept_abilities, can_of, seen_as, IsAttached, BeginsDetachIn, BeginsDetach}
 use Rattle.py_textio.proofs.Detached.{detached_answers}
 
 -- What refuses it: of a text that didn't fail what refuses a flush.
@@ -290,10 +290,10 @@ hands_failed old failed joined =
 
 -- a detaching that is refused
 refuses_in : (old new : TextState) (current : Life) (why : IoFault) → old.text.life ≡ current → BeginsDetachIn current old (Err why) new → RefusesDetach old why new
-refuses_in old new life.Live why is begins = record { answers = refuses_so old new why (λ failed. let never : life.Live ≡ life.Failed = sym is ∙ failed in absurd (cc)) begins.0; other = λ failed. let never : life.Live ≡ life.Failed = sym is ∙ failed in absurd (cc) }
+refuses_in old new life.Live why is begins = record { answers = refuses_so old new why (λ failed. let never : life.Live ≡ life.Failed = sym is ∙ failed in absurd (cc)) begins; other = λ failed. let never : life.Live ≡ life.Failed = sym is ∙ failed in absurd (cc) }
 refuses_in old new life.Failed why is begins = absurd (let wrong : Err why ≡ Ok tt = begins.0 in cc)
-refuses_in old new life.Closed why is begins = record { answers = refuses_so old new why (λ failed. let never : life.Closed ≡ life.Failed = sym is ∙ failed in absurd (cc)) begins.0; other = λ failed. let never : life.Closed ≡ life.Failed = sym is ∙ failed in absurd (cc) }
-refuses_in old new life.Detached why is begins = record { answers = refuses_so old new why (λ failed. let never : life.Detached ≡ life.Failed = sym is ∙ failed in absurd (cc)) begins.0; other = λ failed. let never : life.Detached ≡ life.Failed = sym is ∙ failed in absurd (cc) }
+refuses_in old new life.Closed why is begins = record { answers = refuses_so old new why (λ failed. let never : life.Closed ≡ life.Failed = sym is ∙ failed in absurd (cc)) begins; other = λ failed. let never : life.Closed ≡ life.Failed = sym is ∙ failed in absurd (cc) }
+refuses_in old new life.Detached why is begins = record { answers = refuses_so old new why (λ failed. let never : life.Detached ≡ life.Failed = sym is ∙ failed in absurd (cc)) begins; other = λ failed. let never : life.Detached ≡ life.Failed = sym is ∙ failed in absurd (cc) }
 
 gone_refuses : (left : TextLeft) (why : IoFault) → why ≡ fault.Detached → RefusesDetach (seen_as None left) why (seen_as None left)
 gone_refuses left why is = subst (λ (says : IoFault). RefusesDetach (seen_as None left) says (seen_as None left)) (sym is) (record { answers = detached_answers (can_of left) (settings_of left.coder left.settings) Detach refl; other = λ failed. absurd (cc) })
@@ -328,8 +328,8 @@ flushed_place old now owed place can =
 flushed_to : (old now : TextOver Buffer) → now.owed ≡ [] → behind_own now ≡ behind_own old → now.buffer.place ≡ behind_own old
 flushed_to old now none same = omega (arith, same, ap length none)
 
-over_live : (old now : TextState) (kept : TextLeft) (buffer : Buffer) (unwritten : List ℕ) (place : Option ℕ) → old.text.life ≡ life.Live → Answers old Flush Done now → LivesWithBuffer now → IsHanded now kept buffer unwritten place → HandsOver old buffer unwritten place (seen_as None kept)
-over_live old now kept buffer unwritten place live answers lives is =
+over_live : (old now : TextState) (kept : TextLeft) (buffer : Buffer) (unwritten : List ℕ) (place : Option ℕ) → old.text.life ≡ life.Live → Answers old Flush Done now → IsHanded now kept buffer unwritten place → HandsOver old buffer unwritten place (seen_as None kept)
+over_live old now kept buffer unwritten place live answers is =
     let none : unwritten ≡ [] = is.unwritten_is ∙ answers.passes.own in
     let can : now.text.buffer.can ≡ old.text.buffer.can = answers.keeps.can in
     let at : place ≡ place_handed old.text [] = is.place_is ∙ flushed_place old.text now.text answers.passes.own answers.moves.place can in
@@ -341,7 +341,7 @@ over_live old now kept buffer unwritten place live answers lives is =
       unwritten_is = sym (ap (λ (current : Life). owed_then current old.text.owed) live);
       place_is = refl;
       at_once = λ failed. let never : life.Live ≡ life.Failed = sym live ∙ failed in absurd (cc);
-      lives = λ was. lives (answers.moves.life_is ∙ live);
+      lives = λ was. answers.joined.lives (answers.moves.life_is ∙ live);
       stands = λ was. flushed_to old.text now.text answers.passes.own answers.by_own;
       left = left_so old.text now.text kept can answers.moves.settings is.can is.settings;
     })))
@@ -363,10 +363,10 @@ over_failed old now kept buffer unwritten place failed same joined is =
     })))
 
 over_in : (old now : TextState) (kept : TextLeft) (buffer : Buffer) (unwritten : List ℕ) (place : Option ℕ) (current : Life) → old.text.life ≡ current → BeginsDetachIn current old (Ok tt) now → IsHanded now kept buffer unwritten place → HandsOver old buffer unwritten place (seen_as None kept)
-over_in old now kept buffer unwritten place life.Live is begins handed = over_live old now kept buffer unwritten place is begins.0 begins.1 handed
+over_in old now kept buffer unwritten place life.Live is begins handed = over_live old now kept buffer unwritten place is begins handed
 over_in old now kept buffer unwritten place life.Failed is begins handed = over_failed old now kept buffer unwritten place is begins.1 begins.2 handed
-over_in old now kept buffer unwritten place life.Closed is begins handed = absurd (let wrong = (begins.0.refused fault.Closed (rw is refl)).says in cc)
-over_in old now kept buffer unwritten place life.Detached is begins handed = absurd (let wrong = (begins.0.refused fault.Detached (rw is refl)).says in cc)
+over_in old now kept buffer unwritten place life.Closed is begins handed = absurd (let wrong = (begins.refused fault.Closed (rw is refl)).says in cc)
+over_in old now kept buffer unwritten place life.Detached is begins handed = absurd (let wrong = (begins.refused fault.Detached (rw is refl)).says in cc)
 
 -- a text that is handed over
 pub detach_hands_over : (old : Option TextState) (now : TextState) (left kept : TextLeft) (buffer : Buffer) (unwritten : List ℕ) (place : Option ℕ) → BeginsDetach old (Ok tt) (Some now) → IsHanded now kept buffer unwritten place → HandsOver (seen_as old left) buffer unwritten place (seen_as None kept)
@@ -380,9 +380,9 @@ begins_some None is = let wrong : Ok tt ≡ Err fault.Detached = is in absurd (c
 
 -- one that was refused leaves a text that has its buffer as one that has it
 begins_attached : (old new : TextState) (current : Life) (why : IoFault) → old.text.life ≡ current → old.text.life ≢ life.Detached → BeginsDetachIn current old (Err why) new → new.text.life ≢ life.Detached
-begins_attached old new life.Live why is attached begins = lives_on old Flush (Refused why) new refl attached begins.0
+begins_attached old new life.Live why is attached begins = lives_on old Flush (Refused why) new refl attached begins
 begins_attached old new life.Failed why is attached begins = absurd (let wrong : Err why ≡ Ok tt = begins.0 in cc)
-begins_attached old new life.Closed why is attached begins = lives_on old Flush (Refused why) new refl attached begins.0
+begins_attached old new life.Closed why is attached begins = lives_on old Flush (Refused why) new refl attached begins
 begins_attached old new life.Detached why is attached begins = absurd (attached is)
 
 pub still_attached : (old new : Option TextState) (why : IoFault) → IsAttached old → BeginsDetach old (Err why) new → IsAttached new
@@ -392,8 +392,8 @@ still_attached None (Some new) why attached never = absurd never
 still_attached None None why attached is = tt
 
 -- of a text that didn't fail a detaching begins as a flush
-pub begins_flush : (old new : TextState) (current : Life) (result : Result (Unit {0}) IoFault) → current ≢ life.Failed → Answers old Flush (done_reply result) new → LivesWithBuffer new → BeginsDetachIn current old result new
-begins_flush old new life.Live result other answers lives = (answers, lives)
-begins_flush old new life.Failed result other answers lives = absurd (other refl)
-begins_flush old new life.Closed result other answers lives = (answers, lives)
-begins_flush old new life.Detached result other answers lives = (answers, lives)
+pub begins_flush : (old new : TextState) (current : Life) (result : Result (Unit {0}) IoFault) → current ≢ life.Failed → Answers old Flush (done_reply result) new → BeginsDetachIn current old result new
+begins_flush old new life.Live result other answers = answers
+begins_flush old new life.Failed result other answers = absurd (other refl)
+begins_flush old new life.Closed result other answers = answers
+begins_flush old new life.Detached result other answers = answers

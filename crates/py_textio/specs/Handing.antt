@@ -113,14 +113,10 @@ abbrev pub IsAttached : Option TextState → Type 0
 IsAttached (Some state) = state.text.life ≢ life.Detached
 IsAttached None = Unit {0}
 
--- the buffer of a live text lives
-abbrev pub LivesWithBuffer : TextState → Type 0
-LivesWithBuffer state = state.text.life ≡ life.Live → state.text.buffer.life ≡ life.Live
-
 -- How a detaching begins: a failed text stays as it is; of any other all is passed on that was written, which its life may refuse.
 abbrev pub BeginsDetachIn : Life → TextState → Result (Unit {0}) IoFault → TextState → Type 0
 BeginsDetachIn life.Failed old result new = (result ≡ Ok tt) × (new ≡ record old { short = false }) × IsJoined old.text
-BeginsDetachIn other old result new = Answers old Flush (done_reply result) new × LivesWithBuffer new
+BeginsDetachIn other old result new = Answers old Flush (done_reply result) new
 
 -- a detaching begins, of a text that has its buffer
 abbrev pub BeginsDetach : Option TextState → Result (Unit {0}) IoFault → Option TextState → Type 0

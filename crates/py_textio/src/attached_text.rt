@@ -16,7 +16,7 @@ ghost use Rattle.py_read_text.specs.Opening.{WrapOutcome};
 ghost use Rattle.py_read_text.specs.Owing.{IsJoined};
 ghost use Rattle.py_read_text.specs.Answers.{Answers, text_reply, cookie_reply};
 ghost use Rattle.py_read_text.specs.TextState.{settings_of};
-ghost use Rattle.py_textio.specs.Handing.{can_of, kept_abilities, LivesWithBuffer, BeginsDetachIn};
+ghost use Rattle.py_textio.specs.Handing.{can_of, kept_abilities, BeginsDetachIn};
 
 use crate::TextDetached;
 use crate::text_left::TextLeft;
@@ -223,19 +223,8 @@ impl<B: BufferedStream> AttachedText<B> {
                 self.short = false;
                 Ok(())
             }
-            _ => self.flush_first(),
+            _ => self.flush(),
         }
-    }
-
-    /// Passes on all that was written, of a text that didn't fail.
-    fn flush_first(&mut self) -> Result<(), IoFault>
-        ensures answers { Answers self.old Flush (done_reply result) self.new }
-        ensures lives { LivesWithBuffer self.new }
-    {
-        let flushed = self.flush();
-        // That the buffer lives while the text does is known from here on.
-        let _ = self.text.life();
-        flushed
     }
 
     /// The refusal of a call that texts don't have.
