@@ -14,5 +14,5 @@ mod writing;
 
 pub use counting::count_starts;
 pub use fronts::{TextFront, front_of};
-pub use runs::{LEAST, next_most, push_run, window};
+pub use runs::{LEAST, next_most, push_run, utf8_front, window};
 pub use writing::{first_character, push_written, split_ascii};

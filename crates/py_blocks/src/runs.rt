@@ -63,7 +63,7 @@ fn whole_end(bytes: &[u8]) -> usize
 }
 
 /// A count of first bytes that are the UTF-8 of whole characters: up to the first that begins none, or up to a last one that is cut.
-fn utf8_front(bytes: &[u8]) -> usize
+pub fn utf8_front(bytes: &[u8]) -> usize
     ensures within { result ≤ length bytes.now }
     ensures utf8 { IsUtf8 (take result bytes.now) }
 {

@@ -1,9 +1,11 @@
 -- All items of some bytes, decoded at once, and read by the newline rule.
-use Rattle.std.proofs.Common.{◌≡◌, ◌⊎◌, inl, inr, ℕ, zero, suc, ◌+◌, ◌-◌, ◌*◌, ◌^◌, ◌<◌, ◌≤◌, Bool, false, true, List, [], ◌∷◌, ◌++◌, length as len, drop, chars, encode_utf8_all, Result, Ok, Err, IfOk, String, string_bytes, refl, sym, ap, ◌∙◌, arith, append-nil}
+use Rattle.std.proofs.Common.{◌≡◌, ◌⊎◌, inl, inr, ℕ, zero, suc, ◌+◌, ◌-◌, ◌*◌, ◌^◌, ◌<◌, ◌≤◌, Bool, false, true, List, [], ◌∷◌, ◌++◌, length as len, take, drop, chars, encode_utf8_all, Result, Ok, Err, IfOk, String, string_bytes, refl, sym, ap, subst, ◌∙◌, arith, append-nil}
 use Rattle.std.specs.declared.alloc.Global.{Global}
 use Rattle.std.specs.String.{string_len}
 use Rattle.std.proofs.lemmas.List.{length-append, nil_from_length}
 use Rattle.std.proofs.lemmas.Str.{IsUtf8-string_bytes, encodes-chars, chars-nil}
+use Rattle.memchr.specs.Find.{Nowhere, Passes, is_byte}
+use Rattle.py_flat.specs.Lines.{cr}
 use Rattle.py_flat.specs.declared.fault.IoFault.{IoFault}
 use Rattle.py_plain.specs.declared.encoding.Encoding.{Encoding}
 use Rattle.py_plain.specs.declared.handler.Handler.{Handler}
@@ -23,7 +25,9 @@ use Rattle.py_codec.specs.Decoding.{walk_here, walk_past}
 use Rattle.py_codec.specs.Front.{items_for, bytes_in, front_stop, GivesFront}
 use Rattle.py_blocks.proofs.Appended.{chars-fit}
 use Rattle.py_text.specs.NewlinePieces.{IsCopied}
+use Rattle.py_text.proofs.Copying.{Lacks, lacks-passed, copied}
 use Rattle.py_held_text.specs.Known.{IsPart, IsPlain}
+use Rattle.py_held_text.specs.Plain.{KeepsFronts}
 use Rattle.py_held_text.proofs.Reading.{universal-spelled}
 
 -- items that have fewer characters than are wanted are all
@@ -110,6 +114,16 @@ plain-text cs copied = λ is. (
   copied.gives ∙ (ap (λ (t : List ℕ). cs ++ universal false t) chars-nil ∙ append-nil cs),
   copied.holds ∙ ap (ends_held false) chars-nil,
 )
+
+-- bytes in which no CR stands
+pub keeps-fronts : (bytes : List ℕ) → Nowhere (Passes (is_byte cr) bytes) 0 (len bytes) → KeepsFronts rule.Universal bytes
+keeps-fronts bytes none size within utf8 =
+    let text : List ℕ = take size bytes in
+    let lacks : Lacks cr (encode_utf8_all (chars text)) = subst (Lacks cr) (sym (encodes-chars text utf8)) (lacks-passed cr bytes size (λ k low high. none k low (omega (arith, high, within)))) in
+    let same = copied (chars text) [] lacks in (
+      ap (universal false) (sym (append-nil (chars text))) ∙ (same.0 ∙ append-nil (chars text)),
+      ap (ends_held false) (sym (append-nil (chars text))) ∙ same.1,
+    )
 
 -- a text behind none
 pub behind-empty : (text more : String Global) → string_len text ≡ 0 → text_of more ≡ text_of text ++ text_of more

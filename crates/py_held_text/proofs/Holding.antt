@@ -1,5 +1,5 @@
 -- What a text has in hand after a decoding.
-use Rattle.std.proofs.Common.{◌≡◌, ℕ, zero, suc, ◌+◌, ◌≤◌, Bool, true, false, ◌||◌, nat_eq, List, [], ◌∷◌, ◌++◌, length as len, take, drop, Option, Some, None, Result, Ok, Err, IfSome, refl, sym, ap, subst, ◌∙◌, arith, append_assoc, append-nil, true≢false}
+use Rattle.std.proofs.Common.{◌≡◌, ℕ, zero, suc, ◌+◌, ◌≤◌, Bool, true, false, ◌||◌, nat_eq, List, [], ◌∷◌, ◌++◌, length as len, take, drop, Option, Some, None, Result, Ok, Err, OnOk, IfSome, refl, sym, ap, subst, ◌∙◌, arith, append_assoc, append-nil, true≢false}
 use Rattle.std.proofs.lemmas.List.{length-append, take-append-drop, drop_all, take_all}
 use Rattle.py_plain.specs.declared.encoding.Encoding.{Encoding}
 use Rattle.py_plain.specs.declared.newlines.Newlines.{Newlines}
@@ -196,6 +196,12 @@ pub part-decodes : (all : Bool) (size want : ℕ) (old new : HeldView) (result :
 part-decodes all size want old new (Ok None) is outcome = (outcome.0, λ every. (outcome.1 (is every)).some)
 part-decodes all size want old new (Ok (Some stop)) is outcome = outcome
 part-decodes all size want old new (Err why) is outcome = outcome
+
+-- a decoding of bytes that are known text as they are
+pub plain-decodes : (all : Bool) (size want : ℕ) (old new : HeldView) (result : Result (Option HeldStop) IoFault) → 1 ≤ size → OnOk result (len new.bytes + size ≡ len old.bytes) → PartOutcome false size want old result new → DecodeOutcome all old result new
+plain-decodes all size want old new (Ok None) some used outcome = (outcome.0, λ every. omega (arith, some, used))
+plain-decodes all size want old new (Ok (Some stop)) some used outcome = outcome
+plain-decodes all size want old new (Err why) some used outcome = outcome
 
 -- Nothing is left that is an item.
 

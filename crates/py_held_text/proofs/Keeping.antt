@@ -39,14 +39,17 @@ keeps-nothing coder newline known gone place items is =
     (subst (λ (back : List ℕ). KeepsSure (held-by coder none 0 back 0 None false (drop gone items) place 0)) (sym (back-none gone items))
     (λ going. sure-front (held-by coder none 0 [] 0 None false (drop gone items) place 0) []))
 
--- the bytes before the base are removed
-pub keeps-forgot : (coder : Coder) (known : KnownView) (front gone decoded given place : ℕ) (items now : List ℕ) (mark : Option Mark) (ended : Bool) → gone ≤ decoded → now ≡ drop gone items → KeepsSure (view_of coder known front gone decoded items given mark ended place 0) → KeepsSure (view_of coder known front 0 (decoded - gone) now given mark ended place 0)
-keeps-forgot coder known front gone decoded given place items now mark ended from now_is keeps =
-    let size : (decoded - gone) - 0 ≡ decoded - gone = omega arith in
-    let whole : gone + (decoded - gone) ≡ decoded = omega (arith, from) in
-    subst (λ (all : List ℕ). KeepsSure (view_of coder known front 0 (decoded - gone) all given mark ended place 0)) (sym now_is)
-    (subst (λ (n : ℕ). KeepsSure (held-by coder known front (take n (drop gone items)) given mark ended (drop (decoded - gone) (drop gone items)) place 0)) (sym size)
-    (subst (λ (bytes : List ℕ). KeepsSure (held-by coder known front (back_of gone decoded items) given mark ended bytes place 0)) (sym (drop-drop (decoded - gone) gone items ∙ ap (λ (n : ℕ). drop n items) whole)) keeps))
+-- bytes before the base are removed
+pub keeps-forgot : (coder : Coder) (known : KnownView) (front gone decoded given place removed : ℕ) (items now : List ℕ) (mark : Option Mark) (ended : Bool) → removed ≤ gone → gone ≤ decoded → now ≡ drop removed items → KeepsSure (view_of coder known front gone decoded items given mark ended place 0) → KeepsSure (view_of coder known front (gone - removed) (decoded - removed) now given mark ended place 0)
+keeps-forgot coder known front gone decoded given place removed items now mark ended before from now_is keeps =
+    let size : (decoded - removed) - (gone - removed) ≡ decoded - gone = omega (arith, before, from) in
+    let there : removed + (gone - removed) ≡ gone = omega (arith, before) in
+    let whole : removed + (decoded - removed) ≡ decoded = omega (arith, before, from) in
+    let left : List ℕ = drop removed items in
+    subst (λ (all : List ℕ). KeepsSure (view_of coder known front (gone - removed) (decoded - removed) all given mark ended place 0)) (sym now_is)
+    (subst (λ (n : ℕ). KeepsSure (held-by coder known front (take n (drop (gone - removed) left)) given mark ended (drop (decoded - removed) left) place 0)) (sym size)
+    (subst (λ (bytes : List ℕ). KeepsSure (held-by coder known front (take (decoded - gone) bytes) given mark ended (drop (decoded - removed) left) place 0)) (sym (drop-drop (gone - removed) removed items ∙ ap (λ (n : ℕ). drop n items) there))
+    (subst (λ (bytes : List ℕ). KeepsSure (held-by coder known front (back_of gone decoded items) given mark ended bytes place 0)) (sym (drop-drop (decoded - removed) removed items ∙ ap (λ (n : ℕ). drop n items) whole)) keeps)))
 
 -- bytes are put behind those in hand
 pub keeps-pushed : (coder : Coder) (known : KnownView) (front gone decoded given place : ℕ) (items now part : List ℕ) (mark : Option Mark) (ended : Bool) → gone ≤ decoded → decoded ≤ len items → now ≡ items ++ part → KeepsSure (view_of coder known front gone decoded items given mark ended place 0) → KeepsSure (view_of coder known front gone decoded now given mark ended place 0)
@@ -147,22 +150,24 @@ kept-items coder known front gone decoded total total_now items now given mark e
     subst (λ (all : List ℕ). IsKept coder known front gone decoded total_now all given mark ended place walked) (sym is)
     (subst (λ (n : ℕ). IsKept coder known front gone decoded n items given mark ended place walked) (sym same) kept)
 
-pub kept-forgot : (coder : Coder) (known : KnownView) (front gone decoded total total_now : ℕ) (items now : List ℕ) (given : ℕ) (mark : Option Mark) (ended : Bool) (place : ℕ) (walked : Walked) → now ≡ drop gone items → total_now + gone ≡ total → IsKept coder known front gone decoded total items given mark ended place walked → IsKept coder known front 0 (decoded - gone) total_now now given mark ended place walked
-kept-forgot coder known front gone decoded total total_now items now given mark ended place walked is removed kept =
-    let size : (decoded - gone) - 0 ≡ decoded - gone = omega arith in
-    let held = kept.1 in (
+pub kept-forgot : (coder : Coder) (known : KnownView) (front gone decoded total total_now removed : ℕ) (items now : List ℕ) (given : ℕ) (mark : Option Mark) (ended : Bool) (place : ℕ) (walked : Walked) → removed ≤ gone → now ≡ drop removed items → total_now + removed ≡ total → IsKept coder known front gone decoded total items given mark ended place walked → IsKept coder known front (gone - removed) (decoded - removed) total_now now given mark ended place walked
+kept-forgot coder known front gone decoded total total_now removed items now given mark ended place walked before is less kept =
+    let held = kept.1 in
+    let size : (decoded - removed) - (gone - removed) ≡ decoded - gone = omega (arith, before, held.from) in
+    let there : removed + (gone - removed) ≡ gone = omega (arith, before) in
+    let behind : drop gone items ≡ drop (gone - removed) now = sym (ap (drop (gone - removed)) is ∙ (drop-drop (gone - removed) removed items ∙ ap (λ (n : ℕ). drop n items) there)) in (
       (
         kept.0.0,
-        keeps-forgot coder known front gone decoded given place items now mark ended held.from is kept.0.1,
-        walked-same coder.encoding coder.errors known.newline known.newline (drop gone items) now given walked refl (sym is) kept.0.2,
+        keeps-forgot coder known front gone decoded given place removed items now mark ended before held.from is kept.0.1,
+        walked-same coder.encoding coder.errors known.newline known.newline (drop gone items) (drop (gone - removed) now) given walked refl behind kept.0.2,
       ),
       record {
-        from = omega arith;
-        within = omega (arith, held.within, held.from, removed);
-        behind = omega (arith, held.behind, held.from);
-        near = omega (arith, held.near, held.from, removed);
+        from = omega (arith, held.from);
+        within = omega (arith, held.within, held.from, less);
+        behind = omega (arith, held.behind, held.from, before);
+        near = omega (arith, held.near, held.from, before, less);
         among = held.among;
-        few = omega (arith, held.few);
+        few = omega (arith, held.few, held.from, before);
         marked = subst (λ (n : ℕ). IfSome mark (IsMark (len known.characters) n known.cr)) (sym size) held.marked;
       },
     )

@@ -21,7 +21,7 @@ use Rattle.py_held_text.proofs.Parts.{IsCut, cut}
 pub searched-none : (end : LineEnd) (cs : List ℕ) → IsSearched end cs 0
 searched-none end cs = record { front = []; rest = cs; whole = refl; bytes_are = refl; line = λ more. refl; ends = λ more. refl }
 
-searched-more : (end : LineEnd) (cs more : List ℕ) (searched : ℕ) → IsSearched end cs searched → IsSearched end (cs ++ more) searched
+pub searched-more : (end : LineEnd) (cs more : List ℕ) (searched : ℕ) → IsSearched end cs searched → IsSearched end (cs ++ more) searched
 searched-more end cs more searched was = record {
   front = was.front;
   rest = was.rest ++ more;

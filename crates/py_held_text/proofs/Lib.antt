@@ -14,3 +14,5 @@ pub mod Backing
 pub mod Given
 pub mod Bases
 pub mod Keeping
+pub mod Plain
+pub mod Storing

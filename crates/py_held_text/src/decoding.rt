@@ -1,4 +1,4 @@
-ghost use Rattle.std.specs.Prelude.{◌≡◌, ◌++◌, ◌*◌, ◌<◌, ◌≤◌, ℕ, true, chars, length, IfOk, IfErr, OnOk, OnErr};
+ghost use Rattle.std.specs.Prelude.{◌≡◌, ◌++◌, ◌*◌, ◌<◌, ◌≤◌, ℕ, true, chars, length, false, IfOk, IfErr, IfSome, OnOk, OnErr};
 ghost use Rattle.py_plain.specs.Handlers.{treatment, reads_texts};
 ghost use Rattle.py_plain.specs.Items.{walk_from, characters_of};
 ghost use Rattle.py_plain.specs.Units.{Unknown};
@@ -7,6 +7,7 @@ ghost use Rattle.py_codec.specs.Answers.{text_of};
 ghost use Rattle.py_codec.specs.Decoding.{walk_here};
 ghost use Rattle.py_codec.specs.Front.{items_for};
 ghost use Rattle.py_held_text.specs.Known.{may_cut, IsPart, IsPlain};
+ghost use Rattle.py_held_text.specs.Plain.{KeepsFronts};
 
 use memchr::memchr;
 use py_codec::{FrontDecoded, IoFault, Steps, front_text};
@@ -75,6 +76,36 @@ pub fn decoded_alone(alloc: Global, coder: Coder, bytes: &[u8]) -> Result<String
     Ok(text)
 }
 
+/// How many bytes may be a cut character at most, and one more.
+const MORE_THAN_CUT: usize = 4;
+
+/// What is decoded of bytes that give nothing: of a character that is cut, or a range that is refused. `None` where they give anything, or
+/// are more than such a character has.
+pub(crate) fn gives_none(
+    alloc: Global,
+    coder: Coder,
+    bytes: &[u8],
+    want: usize,
+    last: bool,
+) -> Result<Option<FrontDecoded>, IoFault>
+    requires reads { reads_texts coder.errors ≡ true }
+    ensures part { IfOk result (λ found. IfSome found (λ front.
+        let behind = walk_here coder.encoding (treatment coder.errors coder.encoding) last bytes.now in
+        IsPart want (behind 0) behind front)) }
+    ensures none { IfOk result (λ found. IfSome found (λ front. front.used ≡ 0)) }
+    ensures memory { IfErr result (λ why. why ≡ IoFault.NoMemory) }
+{
+    if bytes.len() >= MORE_THAN_CUT {
+        return Ok(None);
+    }
+    let (_, front) = counted_front::<Brand>(Blank::new(1), alloc, coder, bytes, want, last)?;
+    if front.used == 0 {
+        Ok(Some(front))
+    } else {
+        Ok(None)
+    }
+}
+
 /// Whether the universal rule changes nothing in a text: no CR stands in it.
 fn is_plain(text: &str) -> bool
     ensures { IsPlain (chars text.now) result }
@@ -82,6 +113,19 @@ fn is_plain(text: &str) -> bool
     match memchr(b'\r', text.as_bytes()) {
         Some(_) => false,
         None => true,
+    }
+}
+
+/// Whether a rule changes nothing in any text that some bytes begin with, and holds no CR behind it.
+pub(crate) fn keeps_all(newline: Newlines, bytes: &[u8]) -> bool
+    ensures { result ≡ true → KeepsFronts newline bytes.now }
+{
+    match newline {
+        Newlines::Universal => match memchr(b'\r', bytes) {
+            Some(_) => false,
+            None => true,
+        },
+        Newlines::Passthrough | Newlines::Lf | Newlines::Cr | Newlines::Crlf => true,
     }
 }
 

@@ -1,16 +1,22 @@
-ghost use Rattle.std.specs.Prelude.{◌≡◌, ◌++◌, ◌+◌, ◌-◌, ◌≤◌, ◌||◌, true, false, [], length, take, drop, vec_len, vec_capacity, option_map, IfErr, IfSome, OnOk, OnErr};
+ghost use Rattle.std.specs.Prelude.{◌≡◌, ◌++◌, ◌+◌, ◌-◌, ◌≤◌, ◌||◌, true, false, [], length, take, drop, vec_len, vec_capacity, option_map, IfOk, IfErr, IfSome, OnOk, OnErr};
 ghost use Rattle.py_flat.specs.Limits.{greatest_place};
 ghost use Rattle.py_plain.specs.Handlers.{reads_texts};
-ghost use Rattle.py_plain.specs.NewlineRule.{read_all};
+ghost use Rattle.py_plain.specs.NewlineRule.{read_all, holds_after};
 ghost use Rattle.py_codec.specs.Answers.{text_of};
 ghost use Rattle.py_telling.specs.InHand.{surely_given};
 ghost use Rattle.py_telling.specs.ToldView.{IsTold, IsToldAmong};
 ghost use Rattle.py_held_text.specs.Held.{nothing_held, cleared, base_of, whole_of, held_anew};
-ghost use Rattle.py_held_text.specs.Decodes.{DecodeOutcome, DecodeLastOutcome, IsStopped, PartOutcome};
+ghost use Rattle.py_held_text.specs.Decodes.{known_with_cr, DecodeOutcome, DecodeLastOutcome, IsStopped, PartOutcome};
+ghost use Rattle.py_held_text.specs.Plain.{IsPlainPart};
 ghost use Rattle.py_held_text.specs.Finding.{IsFrontOf, answer_of, enough, enough_before, GiveOutcome};
 
+use crate::answer::{answer_before, answer_in, lacks, last_answer};
 use crate::base::{base_behind, next_mark, walked_from};
 use crate::known_text::KnownText;
+use crate::line_search::may_go_on;
+use crate::plain_text::{
+    PlainText, behind, decode_known, give_known, plain_front, plain_text, take_known,
+};
 use crate::reach::reach;
 use crate::{HeldStop, Mark, Wanted};
 use py_blocks::TextFront;
@@ -28,7 +34,8 @@ use std::marker::Model;
 /// since it was made or cleared, the base is where it began, and all can be read anew by other settings. The base moves
 /// on with what is given, so that what is in hand doesn't grow with the stream, but over bytes that give no character, and
 /// where every decoding begins inside a CR LF. Where the text was put inside an item, the base is behind that item, and the
-/// first of the known characters, the front, stand before the base.
+/// first of the known characters, the front, stand before the base. Known characters that are UTF-8 in the bytes, and that the rule doesn't
+/// change, are kept as these bytes alone, the last of those that were decoded.
 ///
 /// Contracts see the settings, the known characters, whether a CR is held behind them (under the universal rule, until
 /// the next character releases it), how many of them stand before the base, the bytes that were decoded since the base, the
@@ -40,7 +47,10 @@ use std::marker::Model;
 #[derive(Drop)]
 pub struct HeldText {
     coder: Coder,
+    /// What is known in a text of its own: nothing where any of the bytes are known text.
     known: KnownText,
+    /// How much of the bytes that are decoded, the last of them, is known text.
+    plain: PlainText,
     /// How many of the known characters stand before the base.
     front: usize,
     bytes: Vec<u8>,
@@ -64,12 +74,15 @@ impl Model for HeldText {
     ghost use Rattle.py_telling.specs.Walks.{IsWalked};
     ghost use Rattle.py_held_text.specs.Held.{HeldView, view_of, IsHeld};
     ghost use Rattle.py_held_text.specs.Bases.{KeepsSure};
+    ghost use Rattle.py_held_text.specs.Plain.{known_of, IsShared};
 
     ghost Value = { HeldView };
 
-    ghost view = { λ h. view_of h.coder h.known h.front h.gone h.decoded h.bytes.items h.given h.mark h.ended h.place (vec_capacity h.bytes - vec_len h.bytes) };
+    ghost view = { λ h. view_of h.coder (known_of h.known h.plain.bytes h.decoded h.bytes.items) h.front h.gone h.decoded h.bytes.items h.given h.mark h.ended h.place (vec_capacity h.bytes - vec_len h.bytes) };
 
-    ghost invariant = { λ h. ((reads_texts h.coder.errors ≡ true) × KeepsSure (view_of h.coder h.known h.front h.gone h.decoded h.bytes.items h.given h.mark h.ended h.place 0) × IsWalked h.coder.encoding h.coder.errors h.known.newline (drop h.gone h.bytes.items) h.given h.walked) × IsHeld (vec_len h.bytes) h.gone h.decoded h.place (length h.known.characters) h.front h.given h.known.cr h.mark };
+    ghost invariant = { λ h.
+        let known = known_of h.known h.plain.bytes h.decoded h.bytes.items in
+        (((reads_texts h.coder.errors ≡ true) × KeepsSure (view_of h.coder known h.front h.gone h.decoded h.bytes.items h.given h.mark h.ended h.place 0) × IsWalked h.coder.encoding h.coder.errors known.newline (drop h.gone h.bytes.items) h.given h.walked) × IsHeld (vec_len h.bytes) h.gone h.decoded h.place (length known.characters) h.front h.given known.cr h.mark) × IsShared h.known h.plain h.decoded h.bytes.items };
 }
 
 // Only how much is in hand, and not what: thousands of characters would hide all else.
@@ -77,7 +90,7 @@ impl fmt::Debug for HeldText {
     fn fmt<W: fmt::Write>(&self, f: &mut fmt::Formatter<W>) -> fmt::Result {
         f.debug_struct("HeldText")
             .field("coder", &self.coder)
-            .field("known", &self.known.len())
+            .field("known", &self.known())
             .field("bytes", &(self.bytes.len() - self.decoded))
             .field("place", &self.place)
             .finish_non_exhaustive()
@@ -94,14 +107,6 @@ pub fn drop_front(bytes: &mut Vec<u8>, count: usize)
     let rest = bytes.len() - count;
     bytes.copy_within(count.., 0);
     bytes.truncate(rest);
-}
-
-/// What stands behind the first n of some bytes.
-fn behind(bytes: &[u8], count: usize) -> &[u8]
-    requires { count ≤ length bytes.now }
-    ensures { result.now ≡ drop count bytes.now }
-{
-    &bytes[count..]
 }
 
 /// How many bytes of room may always be kept.
@@ -136,6 +141,7 @@ impl HeldText {
         HeldText {
             coder,
             known: KnownText::new(alloc, newline),
+            plain: PlainText::default(),
             front: 0,
             bytes: Vec::new(alloc),
             gone: 0,
@@ -168,7 +174,21 @@ impl HeldText {
     pub fn known(&self) -> usize
         ensures { result ≡ length self.now.known }
     {
+        if self.plain.bytes > 0 {
+            return self.plain.count;
+        }
         self.known.len()
+    }
+
+    /// How many they are with the LF that a held CR is by itself. A CR is held only where the rule holds one.
+    fn known_with_cr(&self) -> usize
+        ensures count { result ≡ known_with_cr self.now }
+        ensures holds { holds_after self.now.newline self.now.cr [] ≡ self.now.cr }
+    {
+        if self.plain.bytes > 0 {
+            return self.plain.count;
+        }
+        self.known.len_with_cr()
     }
 
     /// How many of the known characters stand before the base: those that are left of the item that the text was put inside.
@@ -206,15 +226,16 @@ impl HeldText {
         Ok(())
     }
 
-    /// Removes the bytes before the base.
+    /// Removes the bytes before the base, but for those that are known text.
     fn forget(&mut self)
         ensures rest { self.new ≡ record self.old { room = self.new.room } }
         ensures room { self.old.room ≤ self.new.room }
     {
-        if self.gone > 0 {
-            drop_front(&mut self.bytes, self.gone);
-            self.decoded -= self.gone;
-            self.gone = 0;
+        let gone = self.gone.min(self.decoded - self.plain.bytes);
+        if gone > 0 {
+            drop_front(&mut self.bytes, gone);
+            self.decoded -= gone;
+            self.gone -= gone;
         }
     }
 
@@ -269,9 +290,13 @@ impl HeldText {
     ) -> Result<Option<HeldStop>, IoFault>
         ensures { DecodeOutcome all self.old result self.new }
     {
-        let want = self.known.lacks(wanted);
+        let want = self.lacks(wanted);
         let size = self.size_wanted(wanted, want, all);
-        self.decode_part(alloc, size, want, false)
+        let front = self.plain_front(size, want);
+        if front > 0 {
+            return self.decode_part(alloc, front, want, true, false);
+        }
+        self.decode_part(alloc, size, want, false, false)
     }
 
     /// Decodes the bytes in hand, behind which none come, and says why they give no more. What they give is known then. A refused
@@ -281,34 +306,82 @@ impl HeldText {
     pub fn decode_last(&mut self, alloc: Global) -> Result<HeldStop, IoFault>
         ensures { DecodeLastOutcome self.old result self.new }
     {
-        match self.decode_part(alloc, self.undecoded(), usize::MAX, true)? {
+        let size = self.undecoded();
+        let front = self.plain_front(size, usize::MAX);
+        let is_plain = front > 0 && front == size;
+        match self.decode_part(alloc, size, usize::MAX, is_plain, true)? {
             Some(stop) => Ok(stop),
             // No memory holds as many characters as are wanted.
             None => Ok(HeldStop::Drained),
         }
     }
 
+    /// How many characters a call may want besides those that are known, one at least.
+    fn lacks(&self, wanted: Wanted) -> usize
+        ensures { 1 ≤ result }
+    {
+        if self.plain.bytes > 0 {
+            let text = plain_text(&self.bytes, self.decoded, self.plain.bytes);
+            return lacks(
+                wanted,
+                self.plain.count,
+                may_go_on(self.known.newline(), text),
+            );
+        }
+        lacks(wanted, self.known.len(), self.known.ends_open())
+    }
+
+    /// How many of the first n of the bytes in hand can be known text as they are, and are no more than the characters that are wanted.
+    fn plain_front(&self, size: usize, want: usize) -> usize
+        requires { size ≤ length self.now.bytes }
+        ensures within { result ≤ size }
+        ensures plain { 1 ≤ result → IsPlainPart self.now.encoding self.now.newline want (take result self.now.bytes) }
+    {
+        if !self.known.is_empty() {
+            return 0;
+        }
+        let bytes = behind(&self.bytes, self.decoded);
+        plain_front(
+            self.coder.encoding,
+            self.known.newline(),
+            &bytes[..size],
+            want,
+        )
+    }
+
     /// Decodes the first n of the bytes in hand, as far as so many characters are wanted; `last` says that none come behind
-    /// them. `None` where there are as many, or where others stand behind those bytes; else why there are no more.
+    /// them, and `is_plain` that all of them can be known text as they are. `None` where there are as many, or where others stand behind
+    /// those bytes; else why there are no more.
     fn decode_part(
         &mut self,
         alloc: Global,
         size: usize,
         want: usize,
+        is_plain: bool,
         last: bool,
     ) -> Result<Option<HeldStop>, IoFault>
         requires within { size ≤ length self.old.bytes }
         requires all { last ≡ true → size ≡ length self.old.bytes }
         requires some { 1 ≤ want }
-        ensures { PartOutcome last size want self.old result self.new }
+        requires plain { is_plain ≡ true → IsPlainPart self.old.encoding self.old.newline want (take size self.old.bytes) }
+        ensures outcome { PartOutcome last size want self.old result self.new }
+        ensures used { is_plain ≡ true → OnOk result (length self.new.bytes + size ≡ length self.old.bytes) }
     {
-        let count = self.known.len_with_cr();
+        let count = self.known_with_cr();
         let ended = is_ended(last, self.ended);
-        let bytes = behind(&self.bytes, self.decoded);
-        let is_all = size == bytes.len();
-        let decoded = self
-            .known
-            .decode(alloc, self.coder, &bytes[..size], want, last)?;
+        let is_all = size == self.bytes.len() - self.decoded;
+        let decoded = decode_known(
+            alloc,
+            self.coder,
+            &mut self.known,
+            &mut self.plain,
+            &self.bytes,
+            self.decoded,
+            size,
+            want,
+            is_plain,
+            last,
+        )?;
         let front = decoded.front;
         let from = self.place;
         self.mark = next_mark(self.mark, decoded.cut, count, self.decoded - self.gone);
@@ -340,6 +413,9 @@ impl HeldText {
         ensures memory { IfErr result (λ why. why ≡ IoFault.NoMemory) }
         ensures same { OnErr result (self.new ≡ self.old) }
     {
+        if self.plain.bytes > 0 {
+            return Ok(());
+        }
         self.known.release()?;
         Ok(())
     }
@@ -351,6 +427,16 @@ impl HeldText {
         ensures front { IfSome result (IsFrontOf self.old.known) }
         ensures same { self.new ≡ self.old }
     {
+        if self.plain.bytes > 0 {
+            let text = plain_text(&self.bytes, self.decoded, self.plain.bytes);
+            return answer_in(
+                self.known.newline(),
+                text,
+                self.plain.count,
+                &mut self.plain.searched,
+                wanted,
+            );
+        }
         self.known.find(wanted)
     }
 
@@ -360,6 +446,16 @@ impl HeldText {
         ensures count { option_map (λ front. front.chars) result ≡ enough_before wanted self.now.newline self.now.known }
         ensures front { IfSome result (IsFrontOf self.now.known) }
     {
+        if self.plain.bytes > 0 {
+            let text = plain_text(&self.bytes, self.decoded, self.plain.bytes);
+            return answer_before(
+                self.known.newline(),
+                text,
+                self.plain.count,
+                self.plain.searched,
+                wanted,
+            );
+        }
         self.known.find_before(wanted)
     }
 
@@ -368,6 +464,16 @@ impl HeldText {
         ensures answer { take result.chars self.now.known ≡ answer_of wanted self.now.newline self.now.known }
         ensures front { IsFrontOf self.now.known result }
     {
+        if self.plain.bytes > 0 {
+            let text = plain_text(&self.bytes, self.decoded, self.plain.bytes);
+            return last_answer(
+                self.known.newline(),
+                text,
+                self.plain.count,
+                self.plain.searched,
+                wanted,
+            );
+        }
         self.known.find_last(wanted)
     }
 
@@ -379,7 +485,14 @@ impl HeldText {
         requires front { IsFrontOf self.old.known front }
         ensures { GiveOutcome front self.old result self.new }
     {
-        let text = self.known.give(alloc, front)?;
+        let text = give_known(
+            alloc,
+            &mut self.known,
+            &mut self.plain,
+            &self.bytes,
+            self.decoded,
+            front,
+        )?;
         let base = base_behind(front.chars, self.front, self.given, self.mark);
         self.front = base.front;
         self.gone += base.passed;
@@ -387,6 +500,30 @@ impl HeldText {
         self.mark = base.mark;
         self.walked = walked_from(base.passed, self.walked);
         self.shrink();
+        Ok(text)
+    }
+
+    /// Gives all that is known, where all of the bytes in hand are decoded and no CR is held, and lets go of all that is in hand; it stands at
+    /// its place. Where the known text is all of the bytes that are kept, it is given as it is.
+    ///
+    /// `NoMemory` when out of memory, and all is as before.
+    pub fn give_rest(&mut self, alloc: Global) -> Result<String, IoFault>
+        requires decoded { self.old.bytes ≡ [] }
+        requires whole { self.old.cr ≡ false }
+        ensures text { IfOk result (λ text. text_of text ≡ self.old.known) }
+        ensures cleared { OnOk result (self.new ≡ cleared self.old self.old.place self.new.room) }
+        ensures memory { IfErr result (λ why. why ≡ IoFault.NoMemory) }
+        ensures same { OnErr result (self.new ≡ self.old) }
+    {
+        let newline = self.known.newline();
+        let text = take_known(
+            alloc,
+            &mut self.known,
+            &mut self.bytes,
+            self.decoded,
+            self.plain.bytes,
+        )?;
+        *self = HeldText::new(alloc, self.coder, newline, self.place);
         Ok(text)
     }
 
@@ -428,6 +565,7 @@ impl HeldText {
     {
         self.coder = coder;
         self.known.clear(newline);
+        self.plain = PlainText::default();
         self.front = 0;
         self.place -= (self.decoded - self.gone) as u64;
         self.decoded = self.gone;
@@ -444,6 +582,7 @@ impl HeldText {
         ensures room { self.old.room ≤ self.new.room }
     {
         self.known.clear(self.known.newline());
+        self.plain = PlainText::default();
         self.front = 0;
         self.bytes.clear();
         self.gone = 0;

@@ -8,10 +8,12 @@ ghost use Rattle.py_codec.specs.Decoding.{walk_here};
 ghost use Rattle.py_codec.specs.Front.{items_for};
 ghost use Rattle.py_held_text.specs.Finding.{IsFrontOf, answer_of, enough, enough_before};
 ghost use Rattle.py_held_text.specs.Known.{KnownView, reading, ended, may_cut, IsPart};
+ghost use Rattle.py_held_text.specs.Plain.{nothing_known};
 
 use crate::Wanted;
+use crate::answer::{answer_before, answer_in, last_answer};
 use crate::decoding::{Decoded, decode_by};
-use crate::line_search::{ended_line, last_line, limited_line, line_front, may_go_on};
+use crate::line_search::may_go_on;
 use py_blocks::{TextFront, front_of};
 use py_codec::IoFault;
 use py_plain::Newlines;
@@ -20,7 +22,7 @@ use std::alloc::{AllocError, Global};
 use std::marker::Model;
 use std::mem;
 
-/// Characters that are known, of which fronts are given, and whether a CR is held behind them.
+/// Characters that are known in a text of their own, of which fronts are given, and whether a CR is held behind them.
 #[derive(Debug, Drop)]
 pub(crate) struct KnownText {
     newline: Newlines,
@@ -116,6 +118,15 @@ impl KnownText {
         self.cr = false;
     }
 
+    /// Lets go of what was given of a text, and of most of its room, where nothing is known.
+    pub fn let_go(&mut self)
+        requires { self.old ≡ nothing_known self.old.newline }
+        ensures { self.new ≡ self.old }
+    {
+        self.clear(self.newline);
+        trim(&mut self.text, 0);
+    }
+
     /// Has a text known, but for a front of it, in place of all that was known, and holds no CR.
     pub fn put(&mut self, text: String, skipped: TextFront)
         requires { IsFrontOf (text_of text) skipped }
@@ -141,24 +152,15 @@ impl KnownText {
         Ok(())
     }
 
-    /// How many characters a call may want besides those that are known, one at least. A line that ends with a CR wants one: the next
-    /// character tells whether an LF goes with it.
-    pub fn lacks(&self, wanted: Wanted) -> usize
-        ensures { 1 ≤ result }
+    /// Whether nothing is known, and no CR is held.
+    pub fn is_empty(&self) -> bool
+        ensures { result ≡ true → self.now ≡ nothing_known self.now.newline }
     {
-        if matches!(wanted, Wanted::Line(_)) && self.ends_open() {
-            return 1;
-        }
-        match wanted {
-            Wanted::Characters(Some(size)) | Wanted::Line(Some(size)) => {
-                size.saturating_sub(self.count).max(1)
-            }
-            Wanted::Characters(None) | Wanted::Line(None) => usize::MAX,
-        }
+        self.count == 0 && !self.cr
     }
 
     /// Whether the next character tells whether a CR that comes last is a line end by itself.
-    fn ends_open(&self) -> bool {
+    pub fn ends_open(&self) -> bool {
         self.cr || may_go_on(self.newline, &self.text[self.given..])
     }
 
@@ -222,14 +224,7 @@ impl KnownText {
         ensures same { self.new ≡ self.old }
     {
         let text = &self.text[self.given..];
-        match wanted {
-            Wanted::Characters(Some(size)) if size <= self.count => Some(front_of(text, size)),
-            Wanted::Characters(_) => None,
-            Wanted::Line(Some(limit)) if limit <= self.count => {
-                Some(limited_line(self.newline, text, limit))
-            }
-            Wanted::Line(_) => line_front(self.newline, text, self.count, &mut self.searched),
-        }
+        answer_in(self.newline, text, self.count, &mut self.searched, wanted)
     }
 
     /// The front that is the whole answer where a refused range comes behind.
@@ -238,13 +233,7 @@ impl KnownText {
         ensures front { IfSome result (IsFrontOf self.now.characters) }
     {
         let text = &self.text[self.given..];
-        match wanted {
-            Wanted::Characters(Some(size)) if size <= self.count => Some(front_of(text, size)),
-            Wanted::Characters(_) => None,
-            Wanted::Line(limit) => {
-                ended_line(self.newline, text, self.searched, self.count, limit)
-            }
-        }
+        answer_before(self.newline, text, self.count, self.searched, wanted)
     }
 
     /// The front that is the answer where nothing comes behind.
@@ -253,14 +242,7 @@ impl KnownText {
         ensures front { IsFrontOf self.now.characters result }
     {
         let text = &self.text[self.given..];
-        match wanted {
-            Wanted::Characters(None) => TextFront {
-                chars: self.count,
-                bytes: text.len(),
-            },
-            Wanted::Characters(Some(size)) => front_of(text, size),
-            Wanted::Line(limit) => last_line(self.newline, text, self.searched, limit),
-        }
+        last_answer(self.newline, text, self.count, self.searched, wanted)
     }
 
     /// Gives a front, which isn't known any more.

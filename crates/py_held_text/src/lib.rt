@@ -4,12 +4,14 @@
 //! answer of a call. Fronts of them are given.
 #![tactic(auto)]
 
+mod answer;
 mod base;
 mod decoding;
 mod held_stop;
 mod held_text;
 mod known_text;
 mod line_search;
+mod plain_text;
 mod reach;
 mod wanted;
 

@@ -84,9 +84,9 @@ text_cleared before after held front at taken dirty place room settings keeps ow
     text_put before after held front at taken dirty place room [] settings keeps owes far (omega (arith, there)) (inl there) (λ told. ap (left_at (flat_of after).bytes) there) (λ told. omega (arith, there)) is
 
 -- a text that came to the end, which lets go of all that it has in hand
-pub text_ended : (buffer : Buffer) (held given new : HeldView) (front : Option Front) (at taken : ℕ) (dirty : Bool) (count place : ℕ) (settings : TextSettings) → place ≡ buffer.place → given ≡ without_front held count given.room → new ≡ cleared given place new.room → IsText buffer held front at taken dirty settings → IsText buffer new None place 0 false settings
-text_ended buffer held given new front at taken dirty count place settings there given_is new_is is =
-    subst (λ (own : HeldView). IsText buffer own None place 0 false settings) (sym (new_is ∙ ap (λ (own : HeldView). cleared own place new.room) given_is))
+pub text_ended : (buffer : Buffer) (held new : HeldView) (front : Option Front) (at taken : ℕ) (dirty : Bool) (place : ℕ) (settings : TextSettings) → place ≡ buffer.place → new ≡ cleared held place new.room → IsText buffer held front at taken dirty settings → IsText buffer new None place 0 false settings
+text_ended buffer held new front at taken dirty place settings there new_is is =
+    subst (λ (own : HeldView). IsText buffer own None place 0 false settings) (sym new_is)
     (text_cleared buffer buffer held front at taken dirty place new.room settings (record { raw = keeps_same buffer.raw; can = refl; buffering = refl; exported = refl }) is.owes is.far there is)
 
 -- what is owed after a call that neither reads nor writes

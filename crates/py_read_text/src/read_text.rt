@@ -654,11 +654,9 @@ impl<B: BufferedStream> ReadText<B> {
         requires end { WhereShown self.old.buffer (drop self.old.buffer.place (flat_of self.old.buffer).bytes ≡ []) }
         ensures { GiveAllOutcome self.old result self.new }
     {
-        let front = self.held.find_last(Wanted::Characters(None));
-        let text = self.held.give(alloc, front)?;
+        let text = self.held.give_rest(alloc)?;
         self.inside = None;
         self.at = self.held.place();
-        self.held.clear(self.at);
         self.taken = 0;
         self.dirty = false;
         Ok(text)

@@ -37,7 +37,7 @@ not-cr : (c : ℕ) (rest : List ℕ) → Lacks cr (encode_utf8 c ++ rest) → na
 not-cr c rest lacks = not-true (nat_eq c cr) (λ is. false≢true (sym (subst (λ (bs : List ℕ). Lacks cr (bs ++ rest)) (ap encode_utf8 (eqb-true c cr is) ∙ encode_ascii cr (omega arith)) lacks).0))
 
 -- the universal rule changes nothing before the first CR
-copied : (cs rest : List ℕ) → Lacks cr (encode_utf8_all cs) → (universal false (cs ++ rest) ≡ cs ++ universal false rest) × (ends_held false (cs ++ rest) ≡ ends_held false rest)
+pub copied : (cs rest : List ℕ) → Lacks cr (encode_utf8_all cs) → (universal false (cs ++ rest) ≡ cs ++ universal false rest) × (ends_held false (cs ++ rest) ≡ ends_held false rest)
 copied [] rest lacks = (refl, refl)
 copied (c ∷ cs) rest lacks =
     let isnt : nat_eq c cr ≡ false = not-cr c (encode_utf8_all cs) lacks in
