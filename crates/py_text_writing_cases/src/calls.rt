@@ -1,9 +1,8 @@
 //! The calls of a case.
-use crate::shown::push_apart;
 use anyhow::{Result, anyhow};
 use py_flat::IoFault;
 use py_text_trials::{
-    Under, push_answer, push_cookie, push_fault, push_sought, split, take_parts_apart,
+    Under, push_answer, push_apart, push_cookie, push_fault, push_sought, split, take_parts_apart,
 };
 use py_textio::{TextDetached, TextIOWrapper};
 use std::alloc::{AllocError, Global};

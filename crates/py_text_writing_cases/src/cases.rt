@@ -4,7 +4,6 @@ ghost use Rattle.py_raw_memory.specs.MemRaw.{shown as raw_shown};
 ghost use Rattle.py_stream.specs.Opening.{StandsAtStart};
 
 use crate::calls::calls;
-use crate::shown::push_apart;
 use anyhow::{Result, anyhow};
 use py_buffered::{BufferedRandom, BufferedReader, BufferedWriter};
 use py_flat::{IoFault, Life};
@@ -14,7 +13,8 @@ use py_raw_memory::MemRaw;
 use py_stream::{NewRefused, Whence};
 use py_text::{Coder, TextSettings};
 use py_text_trials::{
-    Apart, Under, coder, faults_of, plan_of, push_fault, raw_of, rule, split, take_text_apart,
+    Apart, Under, coder, faults_of, plan_of, push_apart, push_fault, raw_of, rule, split,
+    take_text_apart,
 };
 use py_textio::TextIOWrapper;
 use std::alloc::{AllocError, Global};

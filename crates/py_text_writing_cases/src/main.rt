@@ -8,11 +8,8 @@
 
 mod calls;
 mod cases;
-mod flat;
 mod handed_over;
-mod pieces;
 mod runs;
-mod shown;
 mod starved;
 mod sweep;
 mod writing;

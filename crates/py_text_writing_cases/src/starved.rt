@@ -3,8 +3,6 @@ ghost use Rattle.std.proofs.Common.{rules};
 ghost use Rattle.std.specs.Prelude.{true, false};
 ghost use Rattle.py_raw.specs.RawStream.{Raw, untold};
 
-use crate::flat::Flat;
-use crate::pieces::{Piece, SAMPLES, pieces_of};
 use crate::writing::Counts;
 use anyhow::{Result, anyhow};
 use py_buffered::{BufferedKind, BufferedOver, BufferedRandom, BufferedWriter};
@@ -13,7 +11,7 @@ use py_plain::Handler;
 use py_plain_text::{PlainSettings, laid};
 use py_raw::{GREATEST_PLACE, RawError, RawStream};
 use py_text::{Coder, TextSettings};
-use py_text_trials::{Came, ENCODINGS, RULES};
+use py_text_trials::{Came, ENCODINGS, Flat, Piece, RULES, WRITTEN_SAMPLES, pieces_of};
 use py_textio::TextIOWrapper;
 use std::alloc::{AllocError, Global};
 
@@ -351,7 +349,7 @@ fn try_setting(
 /// Writes each text in pieces of each size in each encoding and by each rule, over raws that run out of memory at one of their first calls.
 pub(crate) fn starve_each(alloc: Global) -> Result<Counts> {
     let mut counts = Counts::none();
-    for sample in SAMPLES {
+    for sample in WRITTEN_SAMPLES {
         for size in PIECES {
             let pieces = pieces_of(alloc, sample, size)?;
             for encoding in ENCODINGS {

@@ -3,9 +3,7 @@ ghost use Rattle.std.specs.Prelude.{IfOk};
 ghost use Rattle.py_raw_memory.specs.MemRaw.{shown as raw_shown};
 ghost use Rattle.py_stream.specs.Opening.{StandsAtStart};
 
-use crate::flat::Flat;
 use crate::handed_over::HandsOver;
-use crate::pieces::{Piece, SAMPLES, pieces_of};
 use crate::runs::{End, GREATEST_CHUNK, Over, Run, Sweep};
 use crate::writing::{Counts, finish, hand_over, is_ended, write_all};
 use anyhow::{Result, anyhow};
@@ -18,7 +16,10 @@ use py_raw::RawFlags;
 use py_raw_memory::MemRaw;
 use py_stream::NewRefused;
 use py_text::{Coder, TextSettings};
-use py_text_trials::{Apart, Came, ENCODINGS, HANDLERS, RULES, failing, raw_of, steps};
+use py_text_trials::{
+    Apart, Came, ENCODINGS, Flat, HANDLERS, Piece, RULES, WRITTEN_SAMPLES, failing, pieces_of,
+    raw_of, steps,
+};
 use py_textio::TextIOWrapper;
 use std::alloc::{AllocError, Global};
 
@@ -295,7 +296,7 @@ fn try_settings(alloc: Global, pieces: &[Piece], which: Sweep, counts: &mut Coun
 /// Writes each text in pieces of each size in each setting, by the runs of a sweep.
 pub(crate) fn write_each(alloc: Global, which: Sweep) -> Result<Counts> {
     let mut counts = Counts::none();
-    for text in SAMPLES {
+    for text in WRITTEN_SAMPLES {
         for size in PIECES {
             let pieces = pieces_of(alloc, text, size)?;
             try_settings(alloc, &pieces, which, &mut counts)?;

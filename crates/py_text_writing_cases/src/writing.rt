@@ -1,10 +1,8 @@
 //! A text and the plain one, written piece by piece.
-use crate::flat::Flat;
 use crate::handed_over::{HandsOver, changed, with_raw};
-use crate::pieces::Piece;
 use crate::runs::{End, Run};
 use py_flat::IoFault;
-use py_text_trials::{Apart, Asking, Came, Tried};
+use py_text_trials::{Apart, Asking, Came, Flat, Piece, Tried};
 use std::alloc::{AllocError, Global};
 
 /// What came of texts.

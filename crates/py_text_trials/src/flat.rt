@@ -1,15 +1,17 @@
 //! What a text is compared with: the plain slow text, and its bytes as a list.
+use crate::apart::Apart;
+use crate::asking::Asking;
+use crate::beside::{Came, came_of};
 use crate::pieces::Piece;
 use py_flat::IoFault;
 use py_plain::encode;
 use py_plain_text::{PlainSettings, PlainText, laid, written};
-use py_text_trials::{Apart, Asking, Came, came_of};
 use std::alloc::{AllocError, Global};
 use std::mem;
 
 /// A plain text, and where it stands: the same bytes as a list, and those before the last write.
 #[derive(Debug, Drop)]
-pub(crate) struct Flat {
+pub struct Flat {
     plain: PlainText,
     settings: PlainSettings,
     bytes: Vec<u8>,

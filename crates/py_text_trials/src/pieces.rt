@@ -4,7 +4,7 @@ use std::mem;
 
 /// Texts that are written: line ends of each kind, alone, cut, and at the front and the end; characters of one to four bytes; characters
 /// that ascii and latin-1 lack, alone and in runs, between line ends too; and a line that is longer than each buffer and chunk.
-pub(crate) const SAMPLES: [&str; 6] = [
+pub const WRITTEN_SAMPLES: [&str; 6] = [
     "",
     "a\r\nb\rc\nd",
     "\n\r\r\n\n",
@@ -15,8 +15,10 @@ pub(crate) const SAMPLES: [&str; 6] = [
 
 /// A piece of a text.
 #[derive(Debug, Drop)]
-pub(crate) struct Piece {
+pub struct Piece {
+    /// Its text.
     pub text: String,
+    /// The characters of that text.
     pub characters: Vec<char>,
 }
 
@@ -36,7 +38,7 @@ impl Piece {
 }
 
 /// A text cut into pieces of so many characters, of which the last may have fewer; of no characters one empty piece.
-pub(crate) fn pieces_of(alloc: Global, text: &str, size: usize) -> Result<Vec<Piece>, AllocError> {
+pub fn pieces_of(alloc: Global, text: &str, size: usize) -> Result<Vec<Piece>, AllocError> {
     let mut pieces = Vec::new(alloc);
     let mut piece = Piece::empty(alloc);
     for character in text.chars() {

@@ -1,5 +1,5 @@
 //! What a text and the stream under it come to, as words.
-use py_text_trials::Apart;
+use crate::apart::Apart;
 use std::alloc::{AllocError, Global};
 
 fn push_bytes(alloc: Global, out: &mut String, bytes: &[u8]) -> Result<(), AllocError> {
@@ -24,7 +24,7 @@ fn push_owed(
 }
 
 /// Appends the bytes of the raw, what the buffer owes, and what the text owes; of a stream that has nothing left to show nothing.
-pub(crate) fn push_apart(alloc: Global, out: &mut String, apart: &Apart) -> Result<(), AllocError> {
+pub fn push_apart(alloc: Global, out: &mut String, apart: &Apart) -> Result<(), AllocError> {
     let Some(raw) = &apart.held.raw else {
         return Ok(());
     };
