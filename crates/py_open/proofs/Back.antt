@@ -64,6 +64,7 @@ use Rattle.py_open.specs.Opening.{access_of, text_settings, OpensBy, OpensSessio
 use Rattle.py_open.specs.Run.{IsRun, IsSmooth}
 use Rattle.py_open.specs.Laws.{left_exactly, session_exact, IsReached, GoesBackFrom, IsBack, GoesBackBy, BringsBack}
 use Rattle.py_open.proofs.Reached.{opening_keeps, run_reached}
+use Rattle.py_open.proofs.Reaching.{opened_reaches, run_reaches}
 use Rattle.py_open.proofs.TextLeft.{call_life}
 use Rattle.py_open.proofs.Steps.{step_keeps, step_told, smooth_step}
 use Rattle.py_open.proofs.Runs.{run_keeps_raw, run_keeps_settings, settled_is_exact}
@@ -331,6 +332,10 @@ reached_known session is =
 pub reached_stands : (now : TextState) → IsReached (TextSession now) → now.text.life ≡ life.Live → StandsInText (state.file_of now)
 reached_stands now is live = ((reached_known (TextSession now) is).known live).stands
 
+-- it has no more bytes than a stream can have
+pub reached_reach : (now : TextState) → IsReached (TextSession now) → length (state.file_of now).bytes ≤ greatest_place
+reached_reach now is = run_reaches is.opened is.calls is.replies (TextSession now) (opened_reaches is.plan.kind (access_of is.plan.mode) is.raw is.opened is.opens) is.run (reached_known (TextSession now) is).told
+
 pub reached_order : (now : TextState) → IsReached (TextSession now) → now.text.life ≡ life.Live → (state.file_of now).place.order ≡ Unknown
 reached_order now is live = ((reached_known (TextSession now) is).known live).none
 
@@ -378,7 +383,7 @@ goes_back was after_tell now after seen says reached tell_step later back step s
     let free = free_tell was.text.life was.text.buffer.can.seekable where_it.free in
     let known = there.known free.0 in
     let file : TextFile = had_by (state.file_of now) (state.file_of was) in
-    let reach : LiesInReach file = record { bytes = back.reach; place = told_near was (Cookie bytes) after_tell tell_step.answers } in
+    let reach : LiesInReach file = record { bytes = reached_reach was reached; place = told_near was (Cookie bytes) after_tell tell_step.answers } in
     let stands : TellsIn file = record { stands = stands_had (state.file_of now) (state.file_of was) back.handler back.reads (here.known back.live).stands known.stands; none = known.none } in
     let elsewhere : state.file_of now ≡ placed file now.text.place = put_elsewhere file (state.file_of now) back.bytes refl (settings_had was.text.settings now.text.settings back.encoding back.handler back.newline) (back.live ∙ sym free.0) in
     let goes = back_from file now.text.place bytes stands reach free.0 back.moves back.forward where_it.says in

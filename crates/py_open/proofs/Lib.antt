@@ -11,6 +11,7 @@ pub mod Steps
 pub mod Ending
 pub mod Resting
 pub mod Runs
+mod Reaching
 pub mod Running
 pub mod Closing
 pub mod Gone

@@ -49,7 +49,7 @@ use Rattle.py_open.proofs.Runs.{run_keeps_raw, run_in_step, opened_in_step, smoo
 use Rattle.py_open.proofs.Ending.{step_passes}
 use Rattle.py_open.proofs.InRaw.{owed_none}
 use Rattle.py_open.proofs.Sizes.{life_seen}
-use Rattle.py_open.proofs.Back.{left_whole, put_elsewhere, reached_stands, reached_order}
+use Rattle.py_open.proofs.Back.{left_whole, put_elsewhere, reached_stands, reached_reach, reached_order}
 
 -- The steps of a text that stays live.
 
@@ -97,7 +97,7 @@ takes_there now written reached may = record {
   moves = may.moves;
   clean = may.clean;
   free = accepted_by now.text.life now.text.buffer.can.writable now.text.place.dirty (written_refusal now.text.settings written) (now.text.place.at + len (written_bytes now.text.settings written)) written may.live may.writes may.clean (none_refused (state.file_of now) written may.had) may.near;
-  reach = record { bytes = may.reach; place = omega (arith, may.near) };
+  reach = record { bytes = reached_reach now reached; place = omega (arith, may.near) };
 }
 
 tell_step : (file : TextFile) (written : List ℕ) → Takes file written → session_exact file call.Tell ≡ (Cookie (cookie_bytes (told file)), file)

@@ -1,18 +1,20 @@
 -- A text session is opened as its buffer is, and the text stands over that.
-use Rattle.std.proofs.Common.{◌≡◌, ◌<◌, ℕ, inl, Bool, true, false, not, nat_eq, List, Some, None, sym, ap, ◌∙◌, subst, arith}
+use Rattle.std.proofs.Common.{◌≡◌, ◌<◌, ◌≤◌, ℕ, inl, Bool, true, false, not, nat_eq, IsTrue, List, length, Some, None, sym, ap, ◌∙◌, subst, arith}
+use Rattle.std.proofs.lemmas.Bool.{and_parts}
 use Rattle.py_flat.specs.declared.fault.IoFault.TheVariants as fault
 use Rattle.py_flat.specs.declared.life.Life.{Life}
 use Rattle.py_flat.specs.declared.life.Life.TheVariants as life
 use Rattle.py_flat.specs.Bytes.{lay}
 use Rattle.py_flat.specs.ExactStep.{is_closed}
 use Rattle.py_flat.specs.FlatFile.{Abilities}
+use Rattle.py_flat.specs.Limits.{greatest_place}
 use Rattle.py_flat.specs.Owed.{Owed}
 use Rattle.py_flat.specs.Refusals.{is_unbuffered, or_else, refused_if, life_fault}
 use Rattle.py_plain.specs.Units.{Unknown}
-use Rattle.py_plain_text.specs.TextFile.{TextFile, clean_at}
+use Rattle.py_plain_text.specs.TextFile.{TextFile, TextSettings, clean_at}
 use Rattle.py_plain_text.specs.TextOver.{TextOver, text_file_of}
 use Rattle.py_plain_text.specs.TextRefusals.{fits_handler}
-use Rattle.py_raw.specs.RawStream.{Raw, LeavesCounts}
+use Rattle.py_raw.specs.RawStream.{Raw, WhereBytes, LeavesCounts}
 use Rattle.py_stream.specs.declared.access.Access.{Access}
 use Rattle.py_stream.specs.Access.{can_of, is_able, is_appended}
 use Rattle.py_stream.specs.Stream.{Stream, nothing_owed, buffering_of}
@@ -24,7 +26,7 @@ use Rattle.py_text.specs.declared.text_settings.TextSettings as declared
 use Rattle.py_read_text.specs.TextState.{TextState, file_of, settings_of}
 use Rattle.py_read_text.specs.Opening.{Wraps, opening_refusal}
 use Rattle.py_open.specs.TextOpening.{OpensText, text_opened}
-use Rattle.py_open.specs.TextSession.{IsTextSession, KeepsBeside}
+use Rattle.py_open.specs.TextSession.{IsTextSession, IsInReach, KeepsBeside}
 
 -- what was opened below a text
 abbrev pub OpensBelow : Raw → Access → ℕ → Stream → Type 0
@@ -44,8 +46,17 @@ file_so raw opened size coder settings stream taken state opens wraps =
     ∙ (ap (λ (own : Abilities). let file : TextFile = record { bytes = buffer.raw.bytes; place = clean_at stream.place Unknown; can = own; settings = settings_of coder settings; life = life.Live } in file) can
     ∙ ap (λ (at : ℕ). text_opened buffer.raw.bytes at (can_of opened raw.seekable) (settings_of coder settings)) place))
 
-pub opens_text : (raw : Raw) (opened : Access) (size : ℕ) (coder : Coder) (settings : declared.TextSettings) (stream : Stream) (taken : ℕ) (state : TextState) → OpensBelow raw opened size stream → Wraps (buffer_of stream taken) coder settings state → OpensText raw opened size (settings_of coder settings) state
-opens_text raw opened size coder settings stream taken state opens wraps =
+-- the bytes that a raw tells are no more than a stream can have
+abbrev pub IsTold : Raw → Type 0
+IsTold raw = WhereBytes raw (length raw.bytes ≤ greatest_place)
+
+in_reach : (raw : Raw) (state : TextState) → {can : Abilities} {settings : TextSettings} → file_of state ≡ text_opened state.text.buffer.raw.bytes state.text.buffer.place can settings → Untouched raw state.text.buffer.raw → IsTold raw → IsInReach state
+in_reach raw state is untouched told = λ tells.
+    let bytes : IsTrue raw.tells_bytes = sym untouched.keeps.tells_bytes ∙ (and_parts state.text.buffer.raw.tells_bytes state.text.buffer.raw.tells_place tells).0 in
+    subst (λ (all : List ℕ). length all ≤ greatest_place) (sym (ap (λ (file : TextFile). file.bytes) is ∙ untouched.bytes bytes)) (told bytes)
+
+pub opens_text : (raw : Raw) (opened : Access) (size : ℕ) (coder : Coder) (settings : declared.TextSettings) (stream : Stream) (taken : ℕ) (state : TextState) → IsTold raw → OpensBelow raw opened size stream → Wraps (buffer_of stream taken) coder settings state → OpensText raw opened size (settings_of coder settings) state
+opens_text raw opened size coder settings stream taken state told opens wraps =
     let raw_is : stream.raw ≡ state.text.buffer.raw = sym (ap (λ (own : Buffer). own.raw) wraps.same) in
     let place_is : state.text.buffer.place ≡ stream.place = ap (λ (own : Buffer). own.place) wraps.same in
     record {
@@ -54,6 +65,7 @@ opens_text raw opened size coder settings stream taken state opens wraps =
       untouched = subst (λ (own : Raw). Untouched raw own) raw_is opens.untouched;
       counts = subst (λ (own : Raw). LeavesCounts raw own) raw_is opens.counts;
       file = file_so raw opened size coder settings stream taken state opens wraps;
+      reach = in_reach raw state (file_so raw opened size coder settings stream taken state opens wraps) (subst (λ (own : Raw). Untouched raw own) raw_is opens.untouched) told;
       place = λ tells. place_is ∙ opens.place tells;
       start = λ still. place_is ∙ opens.start still;
       stands = λ tells. ap (λ (own : Raw). own.place) (sym raw_is) ∙ (opens.stands tells ∙ sym place_is);
@@ -65,9 +77,9 @@ opens_text raw opened size coder settings stream taken state opens wraps =
       whole = wraps.whole;
     }
 
-pub session_begins : (raw : Raw) (opened : Access) (size : ℕ) (coder : Coder) (settings : declared.TextSettings) (stream : Stream) (taken : ℕ) (state : TextState) → OpensBelow raw opened size stream → Wraps (buffer_of stream taken) coder settings state → IsTextSession state
-session_begins raw opened size coder settings stream taken state opens wraps =
-    let text = opens_text raw opened size coder settings stream taken state opens wraps in
+pub session_begins : (raw : Raw) (opened : Access) (size : ℕ) (coder : Coder) (settings : declared.TextSettings) (stream : Stream) (taken : ℕ) (state : TextState) → IsTold raw → OpensBelow raw opened size stream → Wraps (buffer_of stream taken) coder settings state → IsTextSession state
+session_begins raw opened size coder settings stream taken state told opens wraps =
+    let text = opens_text raw opened size coder settings stream taken state told opens wraps in
     let live : state.text.life ≡ life.Live = ap (λ (own : TextOver Buffer). own.life) wraps.text in
     let tells : state.text.buffer.raw.tells_place ≡ raw.tells_place = text.untouched.keeps.tells_place in
     record {

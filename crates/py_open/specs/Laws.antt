@@ -141,7 +141,7 @@ pub record IsReached (session : SessionView) : Type 0 where
   pub run : IsRun opened calls replies session
 
 -- a text may go back to where another told, of the same session or of another: it is live, can be moved, can be read where that can, doesn't
--- append, and has its encoding, handler and newline rule, and its bytes, which are no more than a stream can have
+-- append, and has its encoding, handler and newline rule, and its bytes
 pub record GoesBackFrom (was now : TextState) : Type 0 where
   pub live : now.text.life ≡ life.Live
   pub moves : now.text.buffer.can.seekable ≡ true
@@ -151,7 +151,6 @@ pub record GoesBackFrom (was now : TextState) : Type 0 where
   pub handler : now.text.settings.handler ≡ was.text.settings.handler
   pub newline : now.text.settings.newline ≡ was.text.settings.newline
   pub bytes : (state.file_of now).bytes ≡ (state.file_of was).bytes
-  pub reach : length (state.file_of was).bytes ≤ greatest_place
 
 -- it went back: it answers the cookie, and has left what was left where that was told
 pub record IsBack (was : TextState) (told : TextIOCookie) (reply : Reply) (after : TextState) : Type 0 where
@@ -194,8 +193,6 @@ pub record MayWrite (now : TextState) (written : List ℕ) : Type 0 where
   pub had : NeedsNoHandler now.text.settings.encoding written
   -- its newline argument writes the text as it is, and reads that as it is: "\n" and "" do so with each text
   pub kept : is_kept now.text.settings.newline written ≡ true
-  -- its bytes are no more than a stream can have
-  pub reach : length (state.file_of now).bytes ≤ greatest_place
   -- and what is written ends where a stream can stand
   pub near : now.text.place.at + length (written_bytes now.text.settings written) ≤ greatest_place
 

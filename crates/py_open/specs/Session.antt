@@ -25,7 +25,7 @@ use Rattle.py_calls.specs.Calls.{text_call, file_call, said}
 use Rattle.py_read_text.specs.TextState as state
 use Rattle.py_read_text.specs.TextState.{TextState}
 use Rattle.py_read_text.specs.Owing.{all_owed}
-use Rattle.py_open.specs.TextSession.{IsOpen, OwesNothing}
+use Rattle.py_open.specs.TextSession.{IsOpen, OwesNothing, IsInReach}
 use Rattle.py_open.specs.TextHanding.{AnswersCall}
 use Rattle.py_binary.specs.Binary.{flag_of, AnswersBinary}
 
@@ -104,6 +104,8 @@ pub record AnswersText (before : TextState) (call : Call) (reply : Reply) (after
   pub answers : AnswersTextBy (text.is_getter (text_call call)) before (text_call call) (said reply) after
   -- the raw is open as long as the text isn't closed
   pub is_open : StaysOpenWithText after
+  -- it has no more bytes than a stream can have
+  pub reach : IsInReach after
 
 -- one call of a session, which stays of its kind
 abbrev pub Answers : SessionView → Call → Reply → SessionView → Type 0

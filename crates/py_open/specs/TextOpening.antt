@@ -11,6 +11,7 @@ use Rattle.py_stream.specs.Access.{can_of, is_able, is_appended}
 use Rattle.py_stream.specs.Stream.{nothing_owed}
 use Rattle.py_stream.specs.Opening.{Untouched, RefusesRaw, begins_at, tells_start}
 use Rattle.py_read_text.specs.TextState.{TextState, file_of}
+use Rattle.py_open.specs.TextSession.{IsInReach}
 
 -- the flat file of a text that is opened: these bytes, clean at a place, live
 abbrev pub text_opened : List ℕ → ℕ → Abilities → TextSettings → TextFile
@@ -23,7 +24,7 @@ text_opened bytes place can settings = record {
 }
 
 -- an open text: the raw was open and is able to do what it is opened for; nothing was read or written; it begins where the raw stands, one
--- that appends at the end, and at 0 where the raw can't seek; the raw stands there, and nothing is owed
+-- that appends at the end, and at 0 where the raw can't seek; the raw stands there, nothing is owed, and it has no more bytes than a stream can have
 pub record OpensText (raw : Raw) (opened : Access) (buffer : ℕ) (settings : TextSettings) (state : TextState) : Type 0 where
   pub was_open : raw.closed ≡ false
   pub able : is_able opened (Some buffer) raw ≡ true
@@ -38,6 +39,7 @@ pub record OpensText (raw : Raw) (opened : Access) (buffer : ℕ) (settings : Te
   pub life_is : state.text.buffer.life ≡ life.Live
   pub none : state.text.buffer.owed ≡ nothing_owed state.text.buffer.place
   pub own : state.text.owed ≡ []
+  pub reach : IsInReach state
   pub whole : state.short ≡ false
 
 abbrev pub TextOutcome : {R : Type 0} → (R → Raw) → R → Access → ℕ → TextSettings → Result TextState (NewRefused R) → Type 0

@@ -1,13 +1,14 @@
 -- A text over a raw stream: what it is seen as, and what holds of it between its calls.
-use Rattle.std.specs.Prelude.{◌≡◌, ◌≢◌, ℕ, Bool, false, [], Option, Some, None}
+use Rattle.std.specs.Prelude.{◌≡◌, ◌≢◌, ◌≤◌, ℕ, Bool, false, IsTrue, [], length, Option, Some, None}
 use Rattle.py_flat.specs.declared.life.Life.TheVariants as life
 use Rattle.py_flat.specs.ExactStep.{is_closed}
 use Rattle.py_flat.specs.FlatFile.{Buffered}
+use Rattle.py_flat.specs.Limits.{greatest_place}
 use Rattle.py_flat.specs.Refusals.{is_unbuffered}
-use Rattle.py_raw.specs.RawStream.{Raw}
+use Rattle.py_raw.specs.RawStream.{Raw, tells}
 use Rattle.py_stream.specs.Stream.{nothing_owed}
 use Rattle.py_stream.specs.Buffer.{Buffer}
-use Rattle.py_read_text.specs.TextState.{TextState}
+use Rattle.py_read_text.specs.TextState.{TextState, file_of}
 use Rattle.py_read_text.specs.Owing.{IsJoined}
 use Rattle.py_read_text.specs.Answers.{StandsWhileLive}
 use Rattle.py_textio.specs.Handing.{detached_text}
@@ -38,6 +39,10 @@ pub record IsTextSession (state : TextState) : Type 0 where
   pub stands : StandsWhileLive state.text.buffer
   pub joined : IsJoined state.text
   pub held : IsHeld state
+
+-- where its raw tells, a text has no more bytes than a stream can have, those that are owed among them
+abbrev pub IsInReach : TextState → Type 0
+IsInReach state = IsTrue (tells state.text.buffer.raw) → length (file_of state).bytes ≤ greatest_place
 
 -- How it is kept.
 

@@ -104,7 +104,7 @@ pub fn a_reached_text_stands_where_it_tells()
 /// A text goes back to where it told. Two sessions over raws that tell, of any modes, or one session at two times, have texts of the same
 /// bytes. A `SeekText` by the cookie that a `Tell` of the first answered puts the second where the same is left as at that `Tell`, and answers
 /// that cookie: where the second is live, can be moved, and read where the first can, doesn't append, and has the first's encoding, handler
-/// and newline rule, and no more bytes than a stream can have, and where in this call no count of the raw rose and memory sufficed.
+/// and newline rule, and where in this call no count of the raw rose and memory sufficed.
 pub fn a_text_goes_back_to_where_it_told()
     ensures { (was told now after : TextState) (cookie : TextIOCookie) (reply : Reply) → IsReached (TextSession was) → Answers (TextSession was) Tell (Cookie cookie) (TextSession told) → IsReached (TextSession now) → GoesBackFrom was now → Answers (TextSession now) (SeekText (cookie_bytes (cookie_shown cookie)) (pos 0)) reply (TextSession after) → IsSmooth (raw_of (TextSession now)) (raw_of (TextSession after)) → said reply ≢ Refused fault.NoMemory → IsBack was cookie reply after }
 {}

@@ -31,7 +31,7 @@ pub struct Run<R: RawStream> {
 /// each has its cause; where the raw tells, each is the model's, whatever pieces the raw moves and whatever the sizes of
 /// buffer and chunks are. There each session of the run is reached from the opening: so a seek by a cookie that a text told, in this run or in
 /// another over the same bytes, answers that cookie, and what was left then is left again, if the text is live, can be moved and read, doesn't
-/// append, has the encoding, handler and newline rule that the other had and no more bytes than a stream can have, and the seek neither waits nor fails, and has memory
+/// append, has the encoding, handler and newline rule that the other had, and the seek neither waits nor fails, and has memory
 /// (`a_text_goes_back_to_where_it_told`, `cookies_bring_back`).
 ///
 /// Refused, the raw is handed back with nothing read or written: by the plan (`plan_open`), which leaves the registry as it was; then as

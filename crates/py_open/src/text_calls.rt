@@ -25,6 +25,7 @@ pub(crate) fn answer_text<R: RawStream>(
 {
     let reply = made(alloc, text, call);
     let _life = text.life();
+    text.stays_in_reach();
     reply
 }
 

@@ -20,7 +20,7 @@ ghost use Rattle.py_buffered_core.specs.Buffered.{as_buffer};
 ghost use Rattle.py_textio.specs.Handing.{HasRoomBehind};
 ghost use Rattle.py_open.specs.TextHanding.{place_handed, unwritten_reply, AnswersCall};
 ghost use Rattle.py_open.specs.TextOpening.{TextOutcome};
-ghost use Rattle.py_open.specs.TextSession.{IsHeld, IsTextSession};
+ghost use Rattle.py_open.specs.TextSession.{IsHeld, IsTextSession, IsInReach};
 
 use crate::{TextLines, TextUnwritten};
 use py_buffered_core::Buffered;
@@ -307,6 +307,19 @@ impl<R: RawStream> TextSession<R> {
         ensures attached { self.now.text.life ≢ Life.Detached → IsTextSession self.now }
     {
         self.text.life()
+    }
+
+    /// It has no more bytes than a stream can have, which its raw is looked at for, and not called.
+    pub(crate) fn stays_in_reach(&self)
+        ensures { IsInReach self.now }
+    {
+        if self.raw.is_some() {
+            return;
+        }
+        let _raw = match self.text.buffer() {
+            Some(buffer) => buffer.raw(),
+            None => None,
+        };
     }
 
     /// Whether the raw would have blocked before the last call was answered in full: its answer is the characters that came by
