@@ -24,7 +24,7 @@ use crate::written_text::WrittenText;
 use py_flat::{IoFault, Life};
 use py_held_text::{Coder, Wanted};
 use py_plain_text::TextIOCookie;
-use py_read_text::{Answer, ReadText, place_of, refusal};
+use py_read_text::{Answer, ReadText, is_wait, place_of, refusal};
 use py_stream::{BufferedStream, NewRefused};
 use py_text::{Reconfigure, TextSettings};
 use std::alloc::Global;
@@ -33,13 +33,6 @@ use std::marker::Model;
 /// Whether an answer says that the raw would have blocked.
 fn would_block(answer: &Result<(), IoFault>) -> bool
     ensures { result ≡ says_wait (done_reply answer.now) }
-{
-    matches!(answer, Err(IoFault::WouldBlock { .. }))
-}
-
-/// Whether an answer to a write says that the raw would have blocked.
-fn write_would_block(answer: &Result<usize, IoFault>) -> bool
-    ensures { result ≡ says_wait (count_reply answer.now) }
 {
     matches!(answer, Err(IoFault::WouldBlock { .. }))
 }
@@ -129,11 +122,13 @@ impl<B: BufferedStream> AttachedText<B> {
     {
         self.short = false;
         match self.text.life() {
-            Life::Live if self.text.writable() => {
-                let written = self.text.write(alloc, text);
-                self.short = write_would_block(&written);
-                written
-            }
+            Life::Live if self.text.writable() => match self.text.write(alloc, text) {
+                Ok(count) => Ok(count),
+                Err(fault) => {
+                    self.short = is_wait(fault);
+                    Err(fault)
+                }
+            },
             Life::Live => Err(IoFault::Unsupported),
             Life::Failed => Err(IoFault::Failed),
             Life::Closed => Err(IoFault::Closed),
