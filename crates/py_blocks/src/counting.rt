@@ -94,18 +94,13 @@ fn starts_from(bytes: &[u8], from: usize) -> usize
     count + starts_behind(Few::from_slice(&bytes[last..]), place - last)
 }
 
-/// How many of some bytes begin a character of UTF-8: all but those from 0x80 to 0xBF. Of many bytes those of ASCII aren't counted, as each
-/// begins one.
-pub fn count_starts(bytes: &[u8]) -> usize
+/// How many of some bytes begin a character of UTF-8, however many they are: of many those of ASCII aren't counted, as each begins one.
+#[inline(never)]
+fn starts_of_any(bytes: &[u8]) -> usize
     ensures { result ≡ count_by is_char_start bytes.now }
 {
     if bytes.len() < FEW {
         return bytes.iter().filter(|byte| is_start(**byte)).count();
-    }
-    if bytes.len() <= BLOCK {
-        let last = bytes.len() - FEW;
-        let (first, second) = (Few::from_slice(bytes), Few::from_slice(&bytes[last..]));
-        return starts_in_two(first, second, FEW - last);
     }
     if bytes.len() < MANY {
         return starts_from(bytes, 0);
@@ -115,6 +110,19 @@ pub fn count_starts(bytes: &[u8]) -> usize
     }
     let (count, behind) = starts_in_blocks(bytes);
     count + starts_from(bytes, behind)
+}
+
+/// How many of some bytes begin a character of UTF-8: all but those from 0x80 to 0xBF. Those of a short line are counted where it is called.
+#[inline(always)]
+pub fn count_starts(bytes: &[u8]) -> usize
+    ensures { result ≡ count_by is_char_start bytes.now }
+{
+    if bytes.len() < FEW || bytes.len() > BLOCK {
+        return starts_of_any(bytes);
+    }
+    let last = bytes.len() - FEW;
+    let (first, second) = (Few::from_slice(bytes), Few::from_slice(&bytes[last..]));
+    starts_in_two(first, second, FEW - last)
 }
 
 /// Appends some bytes, and answers how many of them begin a character.

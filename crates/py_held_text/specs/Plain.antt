@@ -1,5 +1,5 @@
 -- Known text that is the bytes that are kept.
-use Rattle.std.specs.Prelude.{◌≡◌, ◌≤◌, ◌+◌, ◌-◌, ℕ, List, [], ◌++◌, false, length, take, drop, chars}
+use Rattle.std.specs.Prelude.{◌≡◌, ◌≤◌, ◌-◌, ℕ, List, [], ◌++◌, false, length, take, drop, chars}
 use Rattle.std.specs.Str.{IsUtf8}
 use Rattle.py_plain.specs.declared.encoding.Encoding.{Encoding}
 use Rattle.py_plain.specs.declared.encoding.Encoding.TheVariants.{Utf8}

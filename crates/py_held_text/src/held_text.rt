@@ -268,13 +268,8 @@ impl HeldText {
             return self.undecoded();
         }
         let bytes = behind(&self.bytes, self.decoded);
-        reach(
-            self.coder.encoding,
-            self.known.newline(),
-            wanted,
-            want,
-            bytes,
-        )
+        let newline = self.known.newline();
+        reach(self.coder.encoding, newline, wanted, want, bytes)
     }
 
     /// Decodes the bytes in hand as far as an answer may want them, where more may come behind them; what they give is known then.
@@ -322,11 +317,8 @@ impl HeldText {
     {
         if self.plain.bytes > 0 {
             let text = plain_text(&self.bytes, self.decoded, self.plain.bytes);
-            return lacks(
-                wanted,
-                self.plain.count,
-                may_go_on(self.known.newline(), text),
-            );
+            let goes_on = may_go_on(self.known.newline(), text);
+            return lacks(wanted, self.plain.count, goes_on);
         }
         lacks(wanted, self.known.len(), self.known.ends_open())
     }
@@ -340,13 +332,8 @@ impl HeldText {
         if !self.known.is_empty() {
             return 0;
         }
-        let bytes = behind(&self.bytes, self.decoded);
-        plain_front(
-            self.coder.encoding,
-            self.known.newline(),
-            &bytes[..size],
-            want,
-        )
+        let bytes = &behind(&self.bytes, self.decoded)[..size];
+        plain_front(self.coder.encoding, self.known.newline(), bytes, want)
     }
 
     /// Decodes the first n of the bytes in hand, as far as so many characters are wanted; `last` says that none come behind
