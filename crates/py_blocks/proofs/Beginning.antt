@@ -186,20 +186,11 @@ same-place bytes from place le =
     let same : from + (place - from) ≡ place = omega arith in
     drop-drop (place - from) from bytes ∙ ap (λ n. drop n bytes) same
 
-pub count-eight : (bytes : List ℕ) (from place : ℕ) → from ≤ place → count_by is_char_start (take (place - from) (drop from bytes)) + count_by is_char_start (take 8 (drop place bytes)) ≡ count_by is_char_start (take (place + 8 - from) (drop from bytes))
-count-eight bytes from place le =
-    let size : (place - from) + 8 ≡ place + 8 - from = omega arith in
-    ap (λ behind. count_by is_char_start (take (place - from) (drop from bytes)) + count_by is_char_start (take 8 behind)) (sym (same-place bytes from place le))
-    ∙ count-further (drop from bytes) (place - from) 8 ∙ ap (λ n. count_by is_char_start (take n (drop from bytes))) size
-
--- the last eight bytes are those from their place on
-pub count-last : (bytes : List ℕ) (from place last : ℕ) → from ≤ place → last ≤ place → last + 8 ≡ length bytes
-    → count_by is_char_start (take (place - from) (drop from bytes)) + count_by is_char_start (drop (place - last) (take 8 (drop last bytes))) ≡ count_by is_char_start (drop from bytes)
-count-last bytes from place last le before end =
-    let all : take 8 (drop last bytes) ≡ drop last bytes = take_all 8 (drop last bytes) (omega (arith, length-drop last bytes)) in
-    ap (λ behind. count_by is_char_start (take (place - from) (drop from bytes)) + count_by is_char_start behind)
-    (ap (drop (place - last)) all ∙ same-place bytes last place before ∙ sym (same-place bytes from place le))
-    ∙ count-from (drop from bytes) (place - from)
+-- the last sixteen bytes are those from their place on
+pub count-last : (bytes : List ℕ) (place last : ℕ) → last ≤ place → last + 16 ≡ length bytes → count_by is_char_start (take place bytes) + count_by is_char_start (drop (place - last) (take 16 (drop last bytes))) ≡ count_by is_char_start bytes
+count-last bytes place last before end =
+    let all : take 16 (drop last bytes) ≡ drop last bytes = take_all 16 (drop last bytes) (omega (arith, length-drop last bytes)) in
+    ap (λ behind. count_by is_char_start (take place bytes) + count_by is_char_start behind) (ap (drop (place - last)) all ∙ same-place bytes last place before) ∙ count-from bytes place
 
 -- of sixteen bytes at most the first eight, and of the last eight those behind these
 pub count-ends : (bytes : List ℕ) (last : ℕ) → last + 8 ≡ length bytes → last ≤ 8 → count_by is_char_start (take 8 bytes ++ drop (8 - last) (take 8 (drop last bytes))) ≡ count_by is_char_start bytes

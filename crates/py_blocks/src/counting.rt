@@ -1,5 +1,5 @@
 //! A text in UTF-8, and how many characters it has: as many as its bytes that begin one.
-ghost use Rattle.std.specs.Prelude.{◌≡◌, ◌++◌, ◌≤◌, length, take, drop, chars, IfOk, OnOk};
+ghost use Rattle.std.specs.Prelude.{◌≡◌, ◌++◌, ◌+◌, ◌<◌, ◌≤◌, length, take, drop, chars, IfOk, OnOk};
 ghost use Rattle.std.specs.Fmt.{is_char_start};
 ghost use Rattle.std.specs.List.{count_by};
 
@@ -34,14 +34,14 @@ pub(crate) fn starts_in_block(bytes: Block) -> usize
     BLOCK - others.to_bitmask().count_ones() as usize
 }
 
-/// How many bytes begin a character of a few, but for the first of them.
-fn starts_behind(bytes: Few, skipped: usize) -> usize
-    requires bytes { length bytes ≡ 8 }
-    requires skipped { skipped ≤ 8 }
+/// How many bytes of a block begin a character, but for the first of them.
+fn starts_behind(bytes: Block, skipped: usize) -> usize
+    requires bytes { length bytes ≡ 16 }
+    requires skipped { skipped ≤ 16 }
     ensures { result ≡ count_by is_char_start (drop skipped bytes) }
 {
-    let others = (bytes + Few::splat(0x80)).simd_lt(Few::splat(0x40));
-    FEW - skipped - (others.to_bitmask() >> skipped).count_ones() as usize
+    let others = (bytes + Block::splat(0x80)).simd_lt(Block::splat(0x40));
+    BLOCK - skipped - (others.to_bitmask() >> skipped).count_ones() as usize
 }
 
 /// How many bytes begin a character of eight, and of eight more but for the first of these: those that begin none are counted together.
@@ -61,6 +61,7 @@ fn starts_in_two(first: Few, second: Few, skipped: usize) -> usize
 fn starts_in_blocks(bytes: &[u8]) -> (usize, usize)
     ensures counted { result.0 ≡ count_by is_char_start (take result.1 bytes.now) }
     ensures within { result.1 ≤ length bytes.now }
+    ensures near { length bytes.now < result.1 + 16 }
 {
     let mut count = 0;
     let mut place = 0;
@@ -78,47 +79,39 @@ pub(crate) fn is_start(byte: u8) -> bool
     byte < 0x80 || byte >= 0xC0
 }
 
-/// How many bytes from a place on begin a character: eight are looked at at once, and the last eight again with those before the place left out.
-fn starts_from(bytes: &[u8], from: usize) -> usize
-    requires some { 8 ≤ length bytes.now }
-    requires within { from ≤ length bytes.now }
-    ensures { result ≡ count_by is_char_start (drop from bytes.now) }
-{
-    let mut count = 0;
-    let mut place = from;
-    while place + FEW <= bytes.len() {
-        count += starts_behind(Few::from_slice(&bytes[place..]), 0);
-        place += FEW;
-    }
-    let last = bytes.len() - FEW;
-    count + starts_behind(Few::from_slice(&bytes[last..]), place - last)
-}
-
-/// How many of some bytes begin a character of UTF-8, however many they are: of many those of ASCII aren't counted, as each begins one.
+/// How many of some bytes begin a character, one byte at a time.
 #[inline(never)]
-fn starts_of_any(bytes: &[u8]) -> usize
+fn starts_in_few(bytes: &[u8]) -> usize
     ensures { result ≡ count_by is_char_start bytes.now }
 {
-    if bytes.len() < FEW {
-        return bytes.iter().filter(|byte| is_start(**byte)).count();
-    }
-    if bytes.len() < MANY {
-        return starts_from(bytes, 0);
-    }
-    if bytes.is_ascii() {
-        return bytes.len();
-    }
-    let (count, behind) = starts_in_blocks(bytes);
-    count + starts_from(bytes, behind)
+    bytes.iter().filter(|byte| is_start(**byte)).count()
 }
 
-/// How many of some bytes begin a character of UTF-8: all but those from 0x80 to 0xBF. Those of a short line are counted where it is called.
+/// How many of a block of bytes or more begin a character: by blocks, and the last block again with those before left out. Of many those of
+/// ASCII aren't counted, as each begins one.
+#[inline(never)]
+fn starts_in_many(bytes: &[u8]) -> usize
+    requires { 16 ≤ length bytes.now }
+    ensures { result ≡ count_by is_char_start bytes.now }
+{
+    if bytes.len() >= MANY && bytes.is_ascii() {
+        return bytes.len();
+    }
+    let (count, place) = starts_in_blocks(bytes);
+    let last = bytes.len() - BLOCK;
+    count + starts_behind(Block::from_slice(&bytes[last..]), place - last)
+}
+
+/// How many of some bytes begin a character of UTF-8: all but those from 0x80 to 0xBF. Those of a short line are counted where this is called.
 #[inline(always)]
 pub fn count_starts(bytes: &[u8]) -> usize
     ensures { result ≡ count_by is_char_start bytes.now }
 {
-    if bytes.len() < FEW || bytes.len() > BLOCK {
-        return starts_of_any(bytes);
+    if bytes.len() > BLOCK {
+        return starts_in_many(bytes);
+    }
+    if bytes.len() < FEW {
+        return starts_in_few(bytes);
     }
     let last = bytes.len() - FEW;
     let (first, second) = (Few::from_slice(bytes), Few::from_slice(&bytes[last..]));
